@@ -1,0 +1,25 @@
+// What code and definitions share: the limits, and the words of an event's answer.
+pub mod limits;
+
+pub use limits::ENDS;
+pub use limits::EVENTS;
+pub use limits::FILE;
+pub use limits::FLIGHT;
+pub use limits::LINKS;
+pub use limits::NODES;
+pub use limits::NUMBER;
+
+// The packet that an event handled: its number, or none.
+pub enum Handled {
+    Packet(u32),
+    Nothing,
+}
+
+// Where that packet went: out on a lane, to the destination, lost, or stranded at a node without a live link.
+pub enum Went {
+    Lane(usize),
+    Delivered,
+    Lost,
+    Stranded,
+    Nowhere,
+}
