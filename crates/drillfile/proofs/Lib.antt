@@ -1,0 +1,4 @@
+pub mod Masks
+pub mod Reading
+pub mod Splitting
+pub mod OneOutcome
