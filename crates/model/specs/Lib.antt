@@ -19,3 +19,4 @@ pub mod Writing
 pub mod Text
 pub mod Rows
 pub mod Cases
+pub mod Promises
