@@ -1,0 +1,142 @@
+//! Reader and writer: lengths lent, bytes left alone, round trips.
+
+use second::answer::*;
+use second::events::Event;
+use second::file::{read_event, read_header, write_event, write_header, Reading};
+use second::number;
+use second::opening::open;
+use second::record::Record;
+
+const FILL: u8 = 0xAA;
+
+#[test]
+fn every_number_there_and_back() {
+    let mut bytes = Vec::new();
+    for value in (0..2_097_152)
+        .step_by(7)
+        .chain([127, 128, 16_383, 16_384, 2_097_151])
+    {
+        bytes.clear();
+        number::push(&mut bytes, value);
+        assert_eq!(number::length(value), Some(bytes.len()));
+        assert_eq!(number::read(&bytes, 0), Ok((value, bytes.len())));
+    }
+    assert_eq!(number::length(2_097_152), None);
+}
+
+/// Each file of up to three bytes is read as itself or not at all.
+#[test]
+fn only_the_shortest_form_is_read() {
+    for file in 0..1 << 16 {
+        for bytes in [
+            &[file as u8, (file >> 8) as u8][..],
+            &[0x80, file as u8, (file >> 8) as u8],
+        ] {
+            if let Ok((value, next)) = number::read(bytes, 0) {
+                let mut again = Vec::new();
+                number::push(&mut again, value);
+                assert_eq!(again, bytes[..next]);
+            }
+        }
+    }
+}
+
+#[test]
+fn positions_at_and_past_the_end() {
+    let bytes = [1, 0x80];
+    assert_eq!(number::read(&bytes, 1), Err(1));
+    for position in [2, 3, 1000, usize::MAX] {
+        assert_eq!(number::read(&bytes, position), Err(2));
+        assert_eq!(read_event(&bytes, position), Reading::End);
+        let opening = read_header(&bytes, position).opening;
+        assert_eq!((opening.answer, opening.place), (SPOILT, 2));
+        assert_eq!(opening.record, Record::lone());
+    }
+}
+
+#[test]
+fn events_into_every_length() {
+    for (kind, argument, needed) in [(1, 0, 2), (2, 127, 2), (3, 128, 3), (4, 2_097_151, 4)] {
+        for lent in 0..needed + 3 {
+            let mut part = vec![FILL; lent];
+            let written = write_event(kind, argument, &mut part);
+            if lent < needed {
+                assert_eq!((written.answer, written.count), (PART_SHORT, 0));
+                assert_eq!(part, vec![FILL; lent]);
+            } else {
+                assert_eq!((written.answer, written.count), (DONE, needed));
+                assert!(part[needed..].iter().all(|&byte| byte == FILL));
+                let event = Event::of(kind, argument).unwrap();
+                let reading = read_event(&part[..needed], 0);
+                assert_eq!(
+                    reading,
+                    Reading::Event {
+                        event,
+                        next: needed
+                    }
+                );
+            }
+        }
+    }
+}
+
+#[test]
+fn bad_events_are_6_before_12() {
+    let huge = 4_294_967_295;
+    for (kind, argument) in [(0, 0), (5, 0), (huge, 0), (1, 2_097_152), (4, huge)] {
+        for lent in 0..6 {
+            let mut part = vec![FILL; lent];
+            let written = write_event(kind, argument, &mut part);
+            assert_eq!((written.answer, written.count), (NO_SUCH, 0));
+            assert_eq!(part, vec![FILL; lent]);
+        }
+    }
+}
+
+#[test]
+fn headers_into_every_length() {
+    let long = [0, 1].repeat(128);
+    for (nodes, destination, list) in [(1, 0, &[][..]), (3, 2, &[0, 1, 1, 2]), (2, 1, &long)] {
+        let needed = 3 + list.len() + usize::from(list.len() >= 256);
+        for lent in 0..needed + 3 {
+            let mut part = vec![FILL; lent];
+            let written = write_header(nodes, destination, list, &mut part);
+            if lent < needed {
+                assert_eq!((written.answer, written.count), (PART_SHORT, 0));
+                assert_eq!(part, vec![FILL; lent]);
+            } else {
+                assert_eq!((written.answer, written.count), (DONE, needed));
+                assert!(part[needed..].iter().all(|&byte| byte == FILL));
+                let header = read_header(&part, 0);
+                assert_eq!(header.next, Some(needed));
+                assert_eq!(header.opening, open(nodes, destination, list));
+            }
+        }
+    }
+}
+
+#[test]
+fn bad_headers_are_2_3_4_before_12() {
+    let cases = [
+        (65, 0, &[][..], BAD_SIZES, 0),
+        (2, 0, &[0, 1, 0], BAD_SIZES, 0),
+        (2, 2, &[0, 0], BAD_SIZES, 0),
+        (2, 0, &[0, 1, 1, 1], BAD_LINK, 1),
+        (2, 0, &[0, 1, 1, 0, 0, 2], BAD_LINK, 2),
+        (2, 0, &[0, 1, 1, 0], CLOSED_WALK, 0),
+    ];
+    for (nodes, destination, list, answer, place) in cases {
+        for lent in [0, 3, 100] {
+            let mut part = vec![FILL; lent];
+            let written = write_header(nodes, destination, list, &mut part);
+            assert_eq!(
+                (written.answer, written.place, written.count),
+                (answer, place, 0)
+            );
+            assert_eq!(part, vec![FILL; lent]);
+        }
+        let opening = open(nodes, destination, list);
+        assert_eq!((opening.answer, opening.place), (answer, place));
+        assert_eq!(opening.record, Record::lone());
+    }
+}
