@@ -35,9 +35,9 @@ abbrev pub accepted : Header → ℕ → Read Header
 accepted h next = cond (eqb (opening h .answer) answers.done) (had h next) (refused (opening h .answer) (opening h .place))
 
 -- "Reading a header: node count, destination and link count (11), then 2, then the links (11), then 3, then 4."
-unfoldable pub readHeader : List ℕ → Read Header
-readHeader file =
-    andThen (readNumber file 0) λ nodes p.
+unfoldable pub readHeader : List ℕ → ℕ → Read Header
+readHeader file at =
+    andThen (readNumber file at) λ nodes p.
     andThen (readNumber file p) λ destination q.
     andThen (readNumber file q) λ links r.
     cond (not (sized nodes destination links)) (refused answers.badSizes 0)
@@ -103,4 +103,4 @@ drillOf h r end = wholeOf (r .spoilt)
     wholeOf (some place) = refused answers.spoilt place
 
 unfoldable pub read : List ℕ → Read Drill
-read file = andThen (readHeader file) λ h next. drillOf h (readEvents file next) (length file)
+read file = andThen (readHeader file 0) λ h next. drillOf h (readEvents file next) (length file)

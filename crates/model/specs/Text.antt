@@ -102,4 +102,4 @@ textFrom file (refused answer place) = refusedLine answer place
 -- "Input over 65,536 bytes gives only "refused 11 65536"."
 unfoldable pub drillOutput : List ℕ → List ℕ
 drillOutput file =
-    cond (ltb fileMost (length file)) (refusedLine answers.spoilt fileMost) (textFrom file (readHeader file))
+    cond (ltb fileMost (length file)) (refusedLine answers.spoilt fileMost) (textFrom file (readHeader file 0))
