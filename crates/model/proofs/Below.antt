@@ -59,6 +59,19 @@ module _ (p : ℕ → Bool) where
   pub any-false : (n i : ℕ) → any p n ≡ false → i < n → p i ≡ false
   any-false n i e h = elim (look (p i)) [ inl t ↦ absurd (clash (any-here n i h t) e) | inr f ↦ f ]
 
+  pub all-at : (n i : ℕ) → all p n ≡ true → i < n → p i ≡ true
+  unfolding all
+  all-at zero i e h = absurd (omega arith)
+  all-at (suc n) i e h = elim (last-or-below h) [
+    | inl q ↦ subst (λ k. p k ≡ true) (sym q) (and-both (all p n) (p n) e .1)
+    | inr l ↦ all-at n i (and-both (all p n) (p n) e .0) l
+  ]
+
+  pub all-here : (n : ℕ) → ((i : ℕ) → i < n → p i ≡ true) → all p n ≡ true
+  unfolding all
+  all-here zero h = refl
+  all-here (suc n) h = rw (all-here n (λ i l. h i (omega arith))) (h n (omega arith))
+
   -- a search below a bound finds one, or none is there
   pub seek : (n : ℕ) → ((i : ℕ) × (i < n) × (p i ≡ true)) ⊎ ((i : ℕ) → i < n → p i ≡ false)
   seek n = elim (look (any p n)) [ inl e ↦ inl (any-found n e) | inr e ↦ inr (λ i h. any-false n i e h) ]
@@ -72,6 +85,21 @@ module _ (p : ℕ → Bool) where
     | inr e ↦ elim (look (eqb i j)) [
       | inl q ↦ subst (λ n. p n ≡ false) (eqb-true i j q) e
       | inr q ↦ first-none k (suc i) j (omega (arith, rw e at h)) (omega (arith, eqb-false i j q)) (omega arith)
+    ]
+  ]
+
+  -- a search that passes a number that has p stops at one
+  pub first-found : (k i j : ℕ) → i ≤ j → j < i + k → p j ≡ true → (first p i k < i + k) × (p (first p i k) ≡ true)
+  unfolding first
+  first-found zero i j a b t = absurd (omega arith)
+  first-found (suc k) i j a b t = elim (look (p i)) [
+    | inl e ↦ rw e (omega arith, e)
+    | inr e ↦ elim (look (eqb i j)) [
+      | inl q ↦ absurd (clash (subst (λ n. p n ≡ true) (sym (eqb-true i j q)) t) e)
+      | inr q ↦
+          let f : (first p (suc i) k < suc i + k) × (p (first p (suc i) k) ≡ true) =
+          first-found k (suc i) j (omega (arith, eqb-false i j q)) (omega arith) t in
+          rw e (omega (arith, f .0), f .1)
     ]
   ]
 

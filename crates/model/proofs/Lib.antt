@@ -2,5 +2,13 @@ pub mod Below
 pub mod Pigeon
 pub mod Walks
 pub mod Opening
+pub mod Ends
+pub mod Lanes
+pub mod Steps
+pub mod Departure
+pub mod Formed
+pub mod Kept
+pub mod Opened
+pub mod Single
 pub mod Cases
 pub mod Promises

@@ -4,14 +4,14 @@ use native.Mathlib.Omega.{arith}
 use mathlib.Core.Path.{_≡_, refl, sym, _∙_}
 use mathlib.Core.Logic.{_⊎_, inl, inr}
 use mathlib.Core.Bool.{Bool, true, false, not, _&&_}
-use mathlib.Core.List.{List}
+use mathlib.Core.List.{List, []}
 use lib.Dec.{ltb, eqb}
 use lib.ListN.{length}
 use borrow.Author.Tests.{ltb-true, ltb-false, not-false}
 use Rattle.model.specs.Answers as answers
 use Rattle.model.specs.State.{end}
 use Rattle.model.specs.Formed.{sized, joins}
-use Rattle.model.specs.Opening.{nodeIn, linksIn, ClosedWalk, holdsClosedWalk, firstBadLink, openFrom}
+use Rattle.model.specs.Opening.{nodeIn, linksIn, opened, ClosedWalk, holdsClosedWalk, firstBadLink, openFrom}
 use Rattle.model.specs.Promises.{FourExactly}
 use Rattle.model.proofs.Below.{look, clash, and-both, first-none}
 use Rattle.model.proofs.Walks.{found-if-closed, closed-if-found}
@@ -64,6 +64,27 @@ module _ (nodes destination : ℕ) (list : List ℕ) where
   tested walk e =
       let t = told walk badSizes badLink ring (sym by-tests ∙ e) in
       record { sizes = t .0; links = t .1; walks = t .2 }
+
+  -- an opening gives what was asked for, or the record of a refused one
+  pub opens-as : Tested false → openFrom nodes destination list .state ≡ opened nodes destination list
+  unfolding openFrom
+  opens-as t = rw (t .sizes, t .links, t .walks)
+
+  pub opens : Tested false ⊎ (openFrom nodes destination list .state ≡ opened 1 0 [])
+  unfolding openFrom
+  opens = go (look badSizes) (look badLink) (look ring)
+    where
+      go : (badSizes ≡ true) ⊎ (badSizes ≡ false) → (badLink ≡ true) ⊎ (badLink ≡ false) → (ring ≡ true) ⊎ (ring ≡ false)
+          → Tested false ⊎ (openFrom nodes destination list .state ≡ opened 1 0 [])
+      go (inl s) l w = inr (rw s)
+      go (inr s) (inl l) w = inr (rw (s, l))
+      go (inr s) (inr l) (inl w) = inr (rw (s, l, w))
+      go (inr s) (inr l) (inr w) = inl (record { sizes = s; links = l; walks = w })
+
+  pub right-sizes : badSizes ≡ false → sized nodes destination (linksIn list) ≡ true
+  right-sizes e =
+      let b = eqb (length list % 2) 0 in
+      and-both b (sized nodes destination (linksIn list)) (not-false (b && sized nodes destination (linksIn list)) e) .1
 
   -- where no link is bad, each joins two nodes
   pub joined : badLink ≡ false → (l : ℕ) → l < linksIn list → joins nodes (nodeIn list (end l 0)) (nodeIn list (end l 1)) ≡ true

@@ -1,7 +1,8 @@
 -- A term for each promise of specs/Promises.antt. Assumes nothing.
-use Rattle.model.specs.Promises.{CasesHold, OthersHold, FourExactly}
+use Rattle.model.specs.Promises.{CasesHold, OthersHold, FourExactly, FormedKept, WayOut, NineExactly, FailKeeps}
 use Rattle.model.proofs.Cases as cases
 use Rattle.model.proofs.Opening as opening
+use Rattle.model.proofs.Single as single
 
 pub cases-hold : CasesHold
 cases-hold = cases.tables .0
@@ -11,3 +12,15 @@ others-hold = cases.tables .1
 
 pub four-exactly : FourExactly
 four-exactly = opening.four-exactly
+
+pub formed-kept : FormedKept
+formed-kept = single.formed-kept
+
+pub way-out : WayOut
+way-out = single.way-out
+
+pub nine-exactly : NineExactly
+nine-exactly = single.nine-exactly
+
+pub fail-keeps : FailKeeps
+fail-keeps = single.fail-keeps

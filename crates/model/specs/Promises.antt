@@ -1,9 +1,20 @@
 -- What is promised of the definitions, a named type each; proofs/Promises.antt has a term for each.
-use Prim.Native.Nat.{ℕ}
+use Prim.Native.Nat.{ℕ, _<_, _≤_}
 use mathlib.Core.Path.{_≡_}
+use mathlib.Core.Bool.{true, false}
 use mathlib.Core.List.{List}
+use lib.ListN.{length}
+use Rattle.model.specs.Limits.{flightMost, eventsMost}
 use Rattle.model.specs.Answers as answers
+use Rattle.model.specs.Below.{all}
+use Rattle.model.specs.State.{end, State, lanes}
+use Rattle.model.specs.Formed.{endFormed, wellFormed}
+use Rattle.model.specs.Departure.{outAt, hasLive, hasOut, update, door}
+use Rattle.model.specs.Send.{sendTo}
+use Rattle.model.specs.Fail.{failOf}
+use Rattle.model.specs.Events.{Event, event}
 use Rattle.model.specs.Opening.{ClosedWalk, openFrom}
+use Rattle.model.specs.History.{History}
 use Rattle.model.specs.Rows.{Hold}
 use Rattle.model.specs.Cases.{cases, others}
 
@@ -20,3 +31,41 @@ pub record FourExactly : Type 0 where
   pub closed : (nodes destination : ℕ) (list : List ℕ) → openFrom nodes destination list .answer ≡ answers.closedWalk → ClosedWalk list
   pub open-not-closed : (nodes destination : ℕ) (list : List ℕ) → openFrom nodes destination list .answer ≡ answers.done
       → ClosedWalk list → ⊥
+
+-- ---- single events
+-- "A record is well formed when ..": an opening's record is, accepted or refused; an event, accepted or refused, leaves a well-formed
+-- record well formed; so after any history it is, and answer 1, "record is not well formed", never comes up.
+pub record FormedKept : Type 0 where
+  pub opening : (nodes destination : ℕ) (list : List ℕ) → wellFormed (openFrom nodes destination list .state) ≡ true
+  pub kept : (s : State) (e : Event) → wellFormed s ≡ true → wellFormed (event s e .state) ≡ true
+  pub history : {s : State} → History s → wellFormed s ≡ true
+  pub one-never : {s : State} → History s → (e : Event) → event s e .answer ≡ answers.notFormed → ⊥
+
+-- "Departure update at v. .. Each marked end becomes Out": after it a node with a live link has a live Out link. "the lowest-numbered live
+-- Out link": where a node has one, the way out is one, an end of that node and in range. (The first asks only that marked ends are In and
+-- on live links, which holds in a well-formed record.)
+pub record WayOut : Type 0 where
+  pub updated : (s : State) (v : ℕ) → all (endFormed s) (lanes s) ≡ true → hasLive s v ≡ true → hasOut (update s v) v ≡ true
+  pub leads : (s : State) (v : ℕ) → hasOut s v ≡ true → (door s v < lanes s) × (outAt s v (door s v) ≡ true)
+
+-- Answer 9: "256 in flight, and the node has a live link and is not the destination (send)", given "When, and only then", in a well-formed
+-- record with room for events and at a node that there is.
+pub record Crowded (s : State) (v : ℕ) : Type 0 where
+  pub full : length (s .flight) ≡ flightMost
+  pub linked : hasLive s v ≡ true
+  pub away : v ≡ s .net .destination → ⊥
+
+pub record NineExactly : Type 0 where
+  pub given : (s : State) (v : ℕ) → wellFormed s ≡ true → s .counts .events < eventsMost → v < s .net .nodes
+      → Crowded s v → sendTo s v .answer ≡ answers.flightFull
+  pub only : (s : State) (v : ℕ) → wellFormed s ≡ true → s .counts .events < eventsMost → v < s .net .nodes
+      → sendTo s v .answer ≡ answers.flightFull → Crowded s v
+
+-- "Fail link l. The link goes down at both ends at once. .. Marks on both ends are cleared; directions and bits keep their last values".
+pub record FailKeeps : Type 0 where
+  pub down : (s : State) (l : ℕ) → failOf s l .answer ≡ answers.done → failOf s l .state .up l ≡ false
+  pub clear : (s : State) (l : ℕ) → failOf s l .answer ≡ answers.done
+      → (failOf s l .state .ends .mark (end l 0) ≡ false) × (failOf s l .state .ends .mark (end l 1) ≡ false)
+  pub directions : (s : State) (l : ℕ) → failOf s l .state .ends .out ≡ s .ends .out
+  pub local-bits : (s : State) (l : ℕ) → failOf s l .state .ends .local ≡ s .ends .local
+  pub remote-bits : (s : State) (l : ℕ) → failOf s l .state .ends .remote ≡ s .ends .remote
