@@ -59,6 +59,11 @@ module _ (p : ℕ → Bool) where
   pub any-false : (n i : ℕ) → any p n ≡ false → i < n → p i ≡ false
   any-false n i e h = elim (look (p i)) [ inl t ↦ absurd (clash (any-here n i h t) e) | inr f ↦ f ]
 
+  pub any-none : (n : ℕ) → ((i : ℕ) → p i ≡ false) → any p n ≡ false
+  unfolding any
+  any-none zero h = refl
+  any-none (suc n) h = rw (any-none n h) (h n)
+
   pub all-at : (n i : ℕ) → all p n ≡ true → i < n → p i ≡ true
   unfolding all
   all-at zero i e h = absurd (omega arith)

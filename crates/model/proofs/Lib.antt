@@ -10,5 +10,10 @@ pub mod Formed
 pub mod Kept
 pub mod Opened
 pub mod Single
+pub mod Link
+pub mod Invariant
+pub mod History
+pub mod Bound
+pub mod Agreement
 pub mod Cases
 pub mod Promises

@@ -1,8 +1,10 @@
 -- A term for each promise of specs/Promises.antt. Assumes nothing.
-use Rattle.model.specs.Promises.{CasesHold, OthersHold, FourExactly, FormedKept, WayOut, NineExactly, FailKeeps}
+use Rattle.model.specs.Promises.{CasesHold, OthersHold, FourExactly, FormedKept, WayOut, NineExactly, FailKeeps, TurnsBounded, EndsAgree, TenNever}
 use Rattle.model.proofs.Cases as cases
 use Rattle.model.proofs.Opening as opening
 use Rattle.model.proofs.Single as single
+use Rattle.model.proofs.Bound as bound
+use Rattle.model.proofs.Agreement as agreement
 
 pub cases-hold : CasesHold
 cases-hold = cases.tables .0
@@ -24,3 +26,12 @@ nine-exactly = single.nine-exactly
 
 pub fail-keeps : FailKeeps
 fail-keeps = single.fail-keeps
+
+pub turns-bounded : TurnsBounded
+turns-bounded = bound.bound
+
+pub ends-agree : EndsAgree
+ends-agree = agreement.ends-agree
+
+pub ten-never : TenNever
+ten-never = agreement.ten-never

@@ -48,7 +48,7 @@ one-never {s} h e q = elim (answered (step s e)) [
 ]
 
 pub formed-kept : FormedKept
-formed-kept = record { opening = opening-formed; kept = λ s e w. kept (step s e) w; history = formed-history; one-never = one-never }
+formed-kept = record { opening = opening-formed; kept = λ s e w. kept (step s e) w; history = λ s h. formed-history h; one-never = λ s h. one-never h }
 
 pub way-out : WayOut
 way-out = record { updated = λ s v e. update-out s v (λ x i m. ends-marked s e x i m .1); leads = door-out }

@@ -13,6 +13,8 @@ pub mod Lose
 pub mod Fail
 pub mod Events
 pub mod History
+pub mod Paths
+pub mod Agreement
 pub mod Number
 pub mod File
 pub mod Writing

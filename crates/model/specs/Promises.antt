@@ -1,13 +1,14 @@
 -- What is promised of the definitions, a named type each; proofs/Promises.antt has a term for each.
 use Prim.Native.Nat.{ℕ, _<_, _≤_}
 use mathlib.Core.Path.{_≡_}
+use mathlib.Core.Logic.{_⊎_}
 use mathlib.Core.Bool.{true, false}
 use mathlib.Core.List.{List}
 use lib.ListN.{length}
 use Rattle.model.specs.Limits.{flightMost, eventsMost}
 use Rattle.model.specs.Answers as answers
 use Rattle.model.specs.Below.{all}
-use Rattle.model.specs.State.{end, State, lanes}
+use Rattle.model.specs.State.{end, opp, State, lanes, whole}
 use Rattle.model.specs.Formed.{endFormed, wellFormed}
 use Rattle.model.specs.Departure.{outAt, hasLive, hasOut, update, door}
 use Rattle.model.specs.Send.{sendTo}
@@ -15,6 +16,8 @@ use Rattle.model.specs.Fail.{failOf}
 use Rattle.model.specs.Events.{Event, event}
 use Rattle.model.specs.Opening.{ClosedWalk, openFrom}
 use Rattle.model.specs.History.{History}
+use Rattle.model.specs.Paths.{Joined}
+use Rattle.model.specs.Agreement.{Agree, Untold}
 use Rattle.model.specs.Rows.{Hold}
 use Rattle.model.specs.Cases.{cases, others}
 
@@ -38,8 +41,8 @@ pub record FourExactly : Type 0 where
 pub record FormedKept : Type 0 where
   pub opening : (nodes destination : ℕ) (list : List ℕ) → wellFormed (openFrom nodes destination list .state) ≡ true
   pub kept : (s : State) (e : Event) → wellFormed s ≡ true → wellFormed (event s e .state) ≡ true
-  pub history : {s : State} → History s → wellFormed s ≡ true
-  pub one-never : {s : State} → History s → (e : Event) → event s e .answer ≡ answers.notFormed → ⊥
+  pub history : (s : State) → History s → wellFormed s ≡ true
+  pub one-never : (s : State) → History s → (e : Event) → event s e .answer ≡ answers.notFormed → ⊥
 
 -- "Departure update at v. .. Each marked end becomes Out": after it a node with a live link has a live Out link. "the lowest-numbered live
 -- Out link": where a node has one, the way out is one, an end of that node and in range. (The first asks only that marked ends are In and
@@ -69,3 +72,24 @@ pub record FailKeeps : Type 0 where
   pub directions : (s : State) (l : ℕ) → failOf s l .state .ends .out ≡ s .ends .out
   pub local-bits : (s : State) (l : ℕ) → failOf s l .state .ends .local ≡ s .ends .local
   pub remote-bits : (s : State) (l : ℕ) → failOf s l .state .ends .remote ≡ s .ends .remote
+
+-- ---- histories: an accepted opening, then any events, accepted or refused
+-- Demand 3: at every moment, a node joined to the destination by a path of k links that have not failed has turned at most k times. The
+-- path is any path; the number is the one kept in the record.
+abbrev pub TurnsBounded : Type 0
+TurnsBounded = (s : State) → History s → (v k : ℕ) → Joined s v k → s .turns v ≤ k
+
+-- On every live link the two ends are never both In. Where one is Out and the other In they agree: each local bit equals the other's remote
+-- bit, and all packets on both lanes match. Where both are Out, exactly one end has news outstanding: its lane holds old bits and then new
+-- ones, the other lane matches.
+pub record EndsAgree : Type 0 where
+  pub never-both-in : (s : State) → History s → (x : ℕ) → x < lanes s → whole s x ≡ true
+      → s .ends .out x ≡ false → s .ends .out (opp x) ≡ true
+  pub agree : (s : State) → History s → (x : ℕ) → x < lanes s → whole s x ≡ true
+      → s .ends .out x ≡ true → s .ends .out (opp x) ≡ false → Agree s x (opp x)
+  pub untold : (s : State) → History s → (x : ℕ) → x < lanes s → whole s x ≡ true
+      → s .ends .out x ≡ true → s .ends .out (opp x) ≡ true → Untold s x (opp x) ⊎ Untold s (opp x) x
+
+-- Answer 10, "bit out of step", never comes up.
+abbrev pub TenNever : Type 0
+TenNever = (s : State) → History s → (e : Event) → event s e .answer ≡ answers.outOfStep → ⊥
