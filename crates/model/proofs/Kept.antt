@@ -23,7 +23,7 @@ use Rattle.model.proofs.Formed.{Flies, Formed, formed-if, if-formed, fo
 use Rattle.model.proofs.Steps.{Ready, Oldest, Heard, told, known, Step, refused, at-home, strands, sends, comes-home, bounces, goes-on, loses, fails}
 
 -- a heard packet is in hand
-heard : {s t : State} {x : ℕ} {p : Packet} → Oldest s x p → Heard s x p t → Formed 0 0 s → Formed 1 0 t
+pub heard : {s t : State} {x : ℕ} {p : Packet} → Oldest s x p → Heard s x p t → Formed 0 0 s → Formed 1 0 t
 heard {s} {x = x} old (told o n) f = formed-news (taken s x) (opp x) (formed-taken s x (old .first) f)
 heard {s} {x = x} old (known n) f = formed-taken s x (old .first) f
 
@@ -33,13 +33,13 @@ unfolding news taken
 same-counts (told o n) = refl
 same-counts (known n) = refl
 
-same-live : {s t : State} {x : ℕ} {p : Packet} → Heard s x p t → (v : ℕ) → hasLive t v ≡ hasLive s v
+pub same-live : {s t : State} {x : ℕ} {p : Packet} → Heard s x p t → (v : ℕ) → hasLive t v ≡ hasLive s v
 unfolding news taken hasLive
 same-live (told o n) v = refl
 same-live (known n) v = refl
 
 -- the end that a packet reaches is live
-reached : {s : State} {x : ℕ} {p : Packet} → Oldest s x p → hasLive s (s .net .node (opp x)) ≡ true
+pub reached : {s : State} {x : ℕ} {p : Packet} → Oldest s x p → hasLive s (s .net .node (opp x)) ≡ true
 unfolding hasLive
 reached {s} {x} old =
     any-here (liveAt s (s .net .node (opp x))) (lanes s) (opp x) (opp-below x (s .net .links) (old .inside))

@@ -15,5 +15,6 @@ pub mod Invariant
 pub mod History
 pub mod Bound
 pub mod Agreement
+pub mod Turns
 pub mod Cases
 pub mod Promises

@@ -1,10 +1,11 @@
 -- A term for each promise of specs/Promises.antt. Assumes nothing.
-use Rattle.model.specs.Promises.{CasesHold, OthersHold, FourExactly, FormedKept, WayOut, NineExactly, FailKeeps, TurnsBounded, EndsAgree, TenNever}
+use Rattle.model.specs.Promises.{CasesHold, OthersHold, FourExactly, FormedKept, WayOut, NineExactly, FailKeeps, TurnsBounded, TurnsCounted, EndsAgree, TenNever}
 use Rattle.model.proofs.Cases as cases
 use Rattle.model.proofs.Opening as opening
 use Rattle.model.proofs.Single as single
 use Rattle.model.proofs.Bound as bound
 use Rattle.model.proofs.Agreement as agreement
+use Rattle.model.proofs.Turns as turns
 
 pub cases-hold : CasesHold
 cases-hold = cases.tables .0
@@ -29,6 +30,9 @@ fail-keeps = single.fail-keeps
 
 pub turns-bounded : TurnsBounded
 turns-bounded = bound.bound
+
+pub turns-counted : TurnsCounted
+turns-counted = turns.turns-counted
 
 pub ends-agree : EndsAgree
 ends-agree = agreement.ends-agree

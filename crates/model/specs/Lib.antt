@@ -15,6 +15,7 @@ pub mod Events
 pub mod History
 pub mod Paths
 pub mod Agreement
+pub mod Turns
 pub mod Number
 pub mod File
 pub mod Writing

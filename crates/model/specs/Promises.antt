@@ -18,6 +18,7 @@ use Rattle.model.specs.Opening.{ClosedWalk, openFrom}
 use Rattle.model.specs.History.{History}
 use Rattle.model.specs.Paths.{Joined}
 use Rattle.model.specs.Agreement.{Agree, Untold}
+use Rattle.model.specs.Turns.{turnEvents}
 use Rattle.model.specs.Rows.{Hold}
 use Rattle.model.specs.Cases.{cases, others}
 
@@ -78,6 +79,12 @@ pub record FailKeeps : Type 0 where
 -- path is any path; the number is the one kept in the record.
 abbrev pub TurnsBounded : Type 0
 TurnsBounded = (s : State) → History s → (v k : ℕ) → Joined s v k → s .turns v ≤ k
+
+-- The kept number is the number of turn events: a node's turns in the record are as many as the turn events of that node in the history.
+-- "The destination never does it."
+pub record TurnsCounted : Type 0 where
+  pub kept : (s : State) (h : History s) (v : ℕ) → s .turns v ≡ turnEvents h v
+  pub destination : (s : State) → History s → s .turns (s .net .destination) ≡ 0
 
 -- On every live link the two ends are never both In. Where one is Out and the other In they agree: each local bit equals the other's remote
 -- bit, and all packets on both lanes match. Where both are Out, exactly one end has news outstanding: its lane holds old bits and then new
