@@ -67,3 +67,7 @@ module _ (s : State) (v : ℕ) where
   pub update-counts : update s v .counts ≡ s .counts
   unfolding update turn
   update-counts = elim (look (hasOut s v)) [ inl e ↦ rw e | inr e ↦ rw e ]
+
+  pub update-flight : update s v .flight ≡ s .flight
+  unfolding update turn
+  update-flight = elim (look (hasOut s v)) [ inl e ↦ rw e | inr e ↦ rw e ]

@@ -28,7 +28,7 @@ heard {s} {x = x} old (told o n) f = formed-news (taken s x) (opp x) (formed-tak
 heard {s} {x = x} old (known n) f = formed-taken s x (old .first) f
 
 -- news and taking leave the counts and the links
-same-counts : {s t : State} {x : ℕ} {p : Packet} → Heard s x p t → t .counts ≡ s .counts
+pub same-counts : {s t : State} {x : ℕ} {p : Packet} → Heard s x p t → t .counts ≡ s .counts
 unfolding news taken
 same-counts (told o n) = refl
 same-counts (known n) = refl

@@ -16,5 +16,6 @@ pub mod History
 pub mod Bound
 pub mod Agreement
 pub mod Turns
+pub mod Places
 pub mod Cases
 pub mod Promises

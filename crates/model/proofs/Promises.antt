@@ -1,11 +1,12 @@
 -- A term for each promise of specs/Promises.antt. Assumes nothing.
-use Rattle.model.specs.Promises.{CasesHold, OthersHold, FourExactly, FormedKept, WayOut, NineExactly, FailKeeps, TurnsBounded, TurnsCounted, EndsAgree, TenNever}
+use Rattle.model.specs.Promises.{CasesHold, OthersHold, FourExactly, FormedKept, WayOut, NineExactly, FailKeeps, TurnsBounded, TurnsCounted, EndsAgree, TenNever, FourPlaces}
 use Rattle.model.proofs.Cases as cases
 use Rattle.model.proofs.Opening as opening
 use Rattle.model.proofs.Single as single
 use Rattle.model.proofs.Bound as bound
 use Rattle.model.proofs.Agreement as agreement
 use Rattle.model.proofs.Turns as turns
+use Rattle.model.proofs.Places as places
 
 pub cases-hold : CasesHold
 cases-hold = cases.tables .0
@@ -39,3 +40,6 @@ ends-agree = agreement.ends-agree
 
 pub ten-never : TenNever
 ten-never = agreement.ten-never
+
+pub four-places : FourPlaces
+four-places = places.four-places

@@ -16,6 +16,7 @@ pub mod History
 pub mod Paths
 pub mod Agreement
 pub mod Turns
+pub mod Places
 pub mod Number
 pub mod File
 pub mod Writing

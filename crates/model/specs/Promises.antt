@@ -19,6 +19,7 @@ use Rattle.model.specs.History.{History}
 use Rattle.model.specs.Paths.{Joined}
 use Rattle.model.specs.Agreement.{Agree, Untold}
 use Rattle.model.specs.Turns.{turnEvents}
+use Rattle.model.specs.Places.{placed, inAll}
 use Rattle.model.specs.Rows.{Hold}
 use Rattle.model.specs.Cases.{cases, others}
 
@@ -100,3 +101,13 @@ pub record EndsAgree : Type 0 where
 -- Answer 10, "bit out of step", never comes up.
 abbrev pub TenNever : Type 0
 TenNever = (s : State) → History s → (e : Event) → event s e .answer ≡ answers.outOfStep → ⊥
+
+-- "proved over the history from an opening: each admitted number stands in exactly one of four places (in flight, delivered, lost,
+-- stranded), by the event that put it there", and in that place once. A number that was not admitted stands nowhere. The counts of the
+-- record are the sizes.
+pub record FourPlaces : Type 0 where
+  pub once : (s : State) (h : History s) (n : ℕ) → n < s .counts .admitted → inAll n (s .flight) (placed h) ≡ 1
+  pub nowhere : (s : State) (h : History s) (n : ℕ) → s .counts .admitted ≤ n → inAll n (s .flight) (placed h) ≡ 0
+  pub delivered : (s : State) (h : History s) → s .counts .delivered ≡ length (placed h .delivered)
+  pub lost : (s : State) (h : History s) → s .counts .lost ≡ length (placed h .lost)
+  pub stranded : (s : State) (h : History s) → s .counts .stranded ≡ length (placed h .stranded)
