@@ -1,21 +1,20 @@
 -- The two ends of every whole link agree, or one has news outstanding; answer 10 never comes up. Assumes nothing.
 use Prim.Native.Nat.{ℕ, suc, _<_}
 use native.Mathlib.Omega.{arith}
-use mathlib.Core.Path.{_≡_, refl, sym, _∙_, ap}
+use mathlib.Core.Path.{_≡_, refl, ap}
 use mathlib.Core.Logic.{_⊎_, inl, inr}
-use mathlib.Core.Bool.{Bool, true, false, not, xor}
-use mathlib.Core.List.{List, [], _∷_, _++_, map}
-use lib.ListN.{replicate}
+use mathlib.Core.Bool.{Bool, true, false}
+use mathlib.Core.List.{List, [], _∷_, map}
 use Rattle.model.specs.Answers as answers
 use Rattle.model.specs.State.{opp, Packet, State, lanes, whole}
 use Rattle.model.specs.Lanes.{onLane}
-use Rattle.model.specs.Events.{Event, event}
+use Rattle.model.specs.Events.{Event}
 use Rattle.model.specs.History.{History}
 use Rattle.model.specs.Agreement.{bitsOn, AllAre, OldThenNew, Agree, Untold}
 use Rattle.model.specs.Promises.{EndsAgree, TenNever}
 use Rattle.model.proofs.Below.{look, clash}
-use Rattle.model.proofs.Steps.{Oldest, isNew, Refused, spoilt, over, none, down, bare, full, astray, step, answered}
-use Rattle.model.proofs.Link.{Mode, partial, Runs, End, Wire, Arrow, Link, in-step, one-out}
+use Rattle.model.proofs.Steps.{Refused, spoilt, over, none, down, bare, full, astray, step, answered}
+use Rattle.model.proofs.Link.{partial, Runs, Wire, Link, in-step, one-out}
 use Rattle.model.proofs.Invariant.{at}
 use Rattle.model.proofs.History.{Good, good, differ}
 
@@ -86,4 +85,4 @@ in-step-always {s} h (astray {x = x} {p = p} old o n) q =
     (in-step (at s (g .0) x) (at s (g .0) (opp x)) p (old .rest) (old .first) o (g .1 .linked x (old .inside) (old .joined)))
 
 pub ten-never : TenNever
-ten-never s h e q = elim (answered (step s e)) [ inl d ↦ omega (arith, d) | inr r ↦ in-step-always h r q ]
+ten-never s h e q = elim (answered (step s e)) [ inl d ↦ omega (arith, d) | inr r ↦ in-step-always h (r .why) q ]

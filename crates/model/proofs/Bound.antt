@@ -1,9 +1,7 @@
 -- Demand 3: a node has turned at most as often as it has links to the destination, on any path. Assumes nothing.
-use Prim.Native.Nat.{ℕ, suc, _≤_}
+use Prim.Native.Nat.{ℕ, _≤_}
 use native.Mathlib.Omega.{arith}
-use mathlib.Core.Path.{_≡_}
 use Rattle.model.specs.State.{opp, State}
-use Rattle.model.specs.History.{History}
 use Rattle.model.specs.Paths.{Joined, here, over}
 use Rattle.model.specs.Promises.{TurnsBounded}
 use Rattle.model.proofs.Link.{Mode, partial, level}

@@ -1,14 +1,14 @@
 -- A departure update leaves a linked node a live Out end, and the way out finds one. Assumes nothing.
-use Prim.Native.Nat.{ℕ, _*_, _<_}
+use Prim.Native.Nat.{ℕ, _<_}
 use native.Mathlib.Omega.{arith}
-use mathlib.Core.Path.{_≡_, refl, sym, _∙_, subst}
+use mathlib.Core.Path.{_≡_, subst}
 use mathlib.Core.Logic.{_⊎_, inl, inr}
-use mathlib.Core.Bool.{Bool, true, false, cond, _&&_, _||_}
-use Rattle.model.specs.Below.{any, first}
-use Rattle.model.specs.State.{end, linkOf, State, Counts, lanes, live}
+use mathlib.Core.Bool.{Bool, true, false, _&&_, _||_}
+use Rattle.model.specs.Below.{first}
+use Rattle.model.specs.State.{end, linkOf, State, lanes, live}
 use Rattle.model.specs.Departure.{liveAt, outAt, markAt, hasLive, hasOut, hasMark, reverses, turn, update, outLink, outEnd, door}
 use lib.Dec.{eqb}
-use Rattle.model.proofs.Below.{look, and-both, or-either, or-right, any-here, any-found, first-found}
+use Rattle.model.proofs.Below.{look, and-both, or-right, any-here, any-found, first-found}
 use Rattle.model.proofs.Ends.{which-end}
 
 both : (a b c : Bool) → a ≡ true → b ≡ true → (a && (b || c)) ≡ true

@@ -3,11 +3,11 @@ use Prim.Native.Nat.{ℕ, _*_, _<_}
 use native.Mathlib.Omega.{arith}
 use mathlib.Core.Path.{_≡_, refl, sym, _∙_, ap}
 use mathlib.Core.Logic.{_⊎_, inl, inr}
-use mathlib.Core.Bool.{Bool, true, false, not, _&&_}
+use mathlib.Core.Bool.{true, false}
 use lib.Dec.{eqb}
 use borrow.Author.Tests.{eqb-true, eqb-false, eq-eqb, ne-eqb}
 use Rattle.model.specs.State.{end, linkOf, side, opp, State, live, whole}
-use Rattle.model.proofs.Below.{look, clash, and-both}
+use Rattle.model.proofs.Below.{look, and-both}
 
 pub opp-opp : (x : ℕ) → opp (opp x) ≡ x
 unfolding opp

@@ -1,26 +1,25 @@
 -- Well-formedness is kept: each change of a state keeps it, with the packets counted that are in hand between two changes. Assumes nothing.
-use Prim.Native.Nat.{ℕ, suc, _+_, _-_, _<_, _≤_}
+use Prim.Native.Nat.{ℕ, _+_, _-_, _<_, _≤_}
 use native.Mathlib.Omega.{arith}
-use mathlib.Core.Path.{_≡_, refl, sym, _∙_, subst}
-use mathlib.Core.Logic.{_⊎_, inl, inr}
+use mathlib.Core.Path.{_≡_, refl}
+use mathlib.Core.Logic.{inl, inr}
 use mathlib.Core.Bool.{Bool, true, false, not, cond, _&&_, _||_}
-use mathlib.Core.List.{List, [], _∷_, _++_}
+use mathlib.Core.List.{List, [], _∷_}
 use lib.Dec.{ltb, leb, eqb}
 use lib.ListN.{length, length-append}
 use borrow.Author.Tests.{ltb-true, lt-ltb, leb-true, le-leb, eqb-true, eq-eqb, not-true}
 use Rattle.model.specs.Limits.{flightMost, eventsMost}
 use Rattle.model.specs.Below.{all}
-use Rattle.model.specs.State.{end, linkOf, opp, Net, Packet, State, lanes, live, whole}
+use Rattle.model.specs.State.{end, linkOf, Net, Packet, State, lanes, live, whole}
 use Rattle.model.specs.Formed.{sized, limitsHold, joins, linkFormed, endFormed, packetFormed, packetsFormed, turnsFormed, summed, wellFormed}
-use Rattle.model.specs.Departure.{liveAt, outAt, hasLive, hasOut, hasMark, reverses, turn, update, door, pass}
-use Rattle.model.specs.Outcome.{Outcome, counted, onward}
-use Rattle.model.specs.Lanes.{onLane, less, taken}
+use Rattle.model.specs.Departure.{liveAt, hasLive, hasOut, reverses, turn, update, door, pass}
+use Rattle.model.specs.Outcome.{counted, onward}
+use Rattle.model.specs.Lanes.{onLane, taken}
 use Rattle.model.specs.Deliver.{news}
 use Rattle.model.specs.Fail.{off, cut}
-use Rattle.model.specs.Events.{Event}
-use Rattle.model.proofs.Below.{look, clash, and-both, any-here, all-at, all-here}
-use Rattle.model.proofs.Ends.{opp-below, link-opp, test-same, live-whole, whole-live, whole-opp}
-use Rattle.model.proofs.Lanes.{less-length, off-length, Each, each-push, each-less, each-oldest, each-off, each-map}
+use Rattle.model.proofs.Below.{look, clash, and-both, all-at, all-here}
+use Rattle.model.proofs.Ends.{live-whole, whole-live}
+use Rattle.model.proofs.Lanes.{less-length, off-length, Each, each-push, each-less, each-off, each-map}
 use Rattle.model.proofs.Departure.{reverse-here, door-out, update-out, update-counts}
 
 pub record NetFormed (n : Net) : Type 0 where

@@ -2,25 +2,25 @@
 use Prim.Native.Nat.{ℕ, _*_, _<_}
 use native.Mathlib.Omega.{arith}
 use mathlib.Core.Path.{_≡_, refl, sym, _∙_}
-use mathlib.Core.Logic.{_⊎_, inl, inr}
-use mathlib.Core.Bool.{Bool, true, false, xor, _&&_}
-use mathlib.Core.List.{List, []}
-use lib.Dec.{ltb, eqb}
+use mathlib.Core.Logic.{inl, inr}
+use mathlib.Core.Bool.{Bool, true, false, xor}
+use mathlib.Core.List.{List}
+use lib.Dec.{eqb}
 use borrow.Author.Tests.{lt-ltb, eqb-true, eqb-false, eq-eqb, ne-eqb}
 use Rattle.model.specs.State.{side, opp, Packet, State, lanes}
-use Rattle.model.specs.Departure.{hasOut, turn, update, door, pass}
+use Rattle.model.specs.Departure.{hasOut, update, door}
 use Rattle.model.specs.Outcome.{Outcome, counted, onward}
 use Rattle.model.specs.Lanes.{onLane, taken}
 use Rattle.model.specs.Deliver.{news}
-use Rattle.model.specs.Fail.{off, cut}
+use Rattle.model.specs.Fail.{cut}
 use Rattle.model.specs.Events.{Event}
-use Rattle.model.specs.Opening.{linksIn, opened, openFrom}
+use Rattle.model.specs.Opening.{linksIn, opened}
 use Rattle.model.specs.History.{History, start, next}
 use Rattle.model.proofs.Below.{look, clash}
 use Rattle.model.proofs.Ends.{opp-below}
 use Rattle.model.proofs.Opening.{tested, opens-as}
 use Rattle.model.proofs.Steps.{Oldest, Heard, told, known, Step, refused, at-home, strands, sends, comes-home, bounces, goes-on, loses, fails, step}
-use Rattle.model.proofs.Link.{Mode, partial, full, End, Link, link-sym, fresh, firstMark, first-arrow}
+use Rattle.model.proofs.Link.{Mode, partial, Link, fresh, first-arrow}
 use Rattle.model.proofs.Invariant.{at, Invariant, kept-taken, kept-pass, kept-counted, kept-news, kept-cut, raised, kept-turn}
 
 abbrev pub Good : Mode → State → Type 0

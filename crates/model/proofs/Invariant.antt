@@ -1,23 +1,21 @@
 -- What holds of every state of a history, under a ghost height of each node; and what each change keeps. Assumes nothing.
-use Prim.Native.Nat.{ℕ, suc, _+_, _*_, _<_, _≤_}
-use native.Mathlib.Omega.{arith}
-use mathlib.Core.Path.{_≡_, refl, sym, _∙_, ap}
-use mathlib.Core.Logic.{_⊎_, inl, inr}
-use mathlib.Core.Bool.{Bool, true, false, not, cond, _&&_, _||_}
-use mathlib.Core.List.{List, [], _∷_, _++_}
+use Prim.Native.Nat.{ℕ, _+_, _<_, _≤_}
+use mathlib.Core.Path.{_≡_, refl, _∙_, ap}
+use mathlib.Core.Logic.{inl, inr}
+use mathlib.Core.Bool.{Bool, true, false, cond, _&&_}
+use mathlib.Core.List.{List, _∷_}
 use lib.Dec.{eqb}
 use borrow.Author.Tests.{eqb-true}
-use Rattle.model.specs.Below.{any}
 use Rattle.model.specs.State.{linkOf, opp, Packet, State, lanes, live, whole}
-use Rattle.model.specs.Departure.{liveAt, outAt, markAt, hasOut, hasMark, turn, pass}
+use Rattle.model.specs.Departure.{outAt, markAt, hasOut, hasMark, turn, pass}
 use Rattle.model.specs.Outcome.{counted}
 use Rattle.model.specs.Lanes.{onLane, taken}
 use Rattle.model.specs.Deliver.{news}
 use Rattle.model.specs.Fail.{cut}
 use Rattle.model.proofs.Below.{look, clash, and-both, any-false, any-none}
-use Rattle.model.proofs.Ends.{opp-opp, link-opp, opp-below, opp-test, test-opp, test-same, test-sym, test-far, whole-live, whole-opp}
+use Rattle.model.proofs.Ends.{opp-opp, opp-below, opp-test, test-opp, test-same, test-sym, test-far, whole-live, whole-opp}
 use Rattle.model.proofs.Lanes.{lane-push, lane-push-other, lane-less, lane-less-other, lane-off}
-use Rattle.model.proofs.Link.{Mode, partial, full, End, Link, link-sym, push, pop, hear, turned, grow, grow-suc, link-push, link-pop, link-hear, link-turn, one-out}
+use Rattle.model.proofs.Link.{Mode, full, End, Link, link-sym, turned, grow, grow-suc, link-push, link-pop, link-hear, link-turn, one-out}
 
 -- end x of the state, with the height of its node
 abbrev pub at : State → (ℕ → ℕ) → ℕ → End

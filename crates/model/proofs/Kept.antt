@@ -1,16 +1,12 @@
 -- Every event keeps a record well formed. Assumes nothing.
-use Prim.Native.Nat.{ℕ, _+_, _-_, _<_, _≤_}
+use Prim.Native.Nat.{ℕ, _-_, _<_}
 use native.Mathlib.Omega.{arith}
-use mathlib.Core.Path.{_≡_, refl, sym, _∙_, subst}
-use mathlib.Core.Logic.{_⊎_, inl, inr}
-use mathlib.Core.Bool.{Bool, true, false, cond, _&&_}
-use mathlib.Core.List.{List, [], _∷_}
-use lib.Dec.{eqb}
+use mathlib.Core.Path.{_≡_, refl, _∙_}
+use mathlib.Core.Bool.{true}
 use lib.ListN.{length}
-use Rattle.model.specs.Limits.{flightMost}
 use Rattle.model.specs.State.{opp, Packet, State, lanes, whole}
 use Rattle.model.specs.Formed.{wellFormed}
-use Rattle.model.specs.Departure.{liveAt, hasLive, pass}
+use Rattle.model.specs.Departure.{liveAt, hasLive}
 use Rattle.model.specs.Outcome.{Outcome, counted}
 use Rattle.model.specs.Lanes.{taken}
 use Rattle.model.specs.Deliver.{news}
@@ -18,9 +14,9 @@ use Rattle.model.specs.Fail.{off, cut}
 use Rattle.model.specs.Events.{Event}
 use Rattle.model.proofs.Below.{any-here}
 use Rattle.model.proofs.Ends.{opp-below, test-same, whole-live, whole-opp}
-use Rattle.model.proofs.Lanes.{off-length, each-oldest}
+use Rattle.model.proofs.Lanes.{each-oldest}
 use Rattle.model.proofs.Formed.{Flies, Formed, formed-if, if-formed, formed-counted, formed-taken, formed-news, formed-pass, formed-cut, formed-onward}
-use Rattle.model.proofs.Steps.{Ready, Oldest, Heard, told, known, Step, refused, at-home, strands, sends, comes-home, bounces, goes-on, loses, fails}
+use Rattle.model.proofs.Steps.{Oldest, Heard, told, known, Step, refused, at-home, strands, sends, comes-home, bounces, goes-on, loses, fails}
 
 -- a heard packet is in hand
 pub heard : {s t : State} {x : ℕ} {p : Packet} → Oldest s x p → Heard s x p t → Formed 0 0 s → Formed 1 0 t

@@ -1,9 +1,9 @@
 -- The packets of a lane after each change of the packets in flight, and what each packet keeps. Assumes nothing.
-use Prim.Native.Nat.{ℕ, suc, _+_, _≤_}
+use Prim.Native.Nat.{ℕ, _+_, _≤_}
 use native.Mathlib.Omega.{arith}
 use mathlib.Core.Path.{_≡_, refl, sym, _∙_, ap, subst}
-use mathlib.Core.Logic.{_⊎_, inl, inr}
-use mathlib.Core.Bool.{Bool, true, false}
+use mathlib.Core.Logic.{inl, inr}
+use mathlib.Core.Bool.{true, false}
 use mathlib.Core.List.{List, [], _∷_, _++_, tail}
 use lib.Dec.{eqb}
 use lib.ListN.{length}
@@ -11,7 +11,7 @@ use borrow.Author.Tests.{eqb-true, eqb-false, ne-eqb}
 use Rattle.model.specs.State.{linkOf, Packet}
 use Rattle.model.specs.Lanes.{onLane, less}
 use Rattle.model.specs.Fail.{off}
-use Rattle.model.proofs.Below.{look, clash}
+use Rattle.model.proofs.Below.{look}
 
 module _ (x : ℕ) where
   pub lane-push : (ps : List Packet) (p : Packet) → eqb (p .lane) x ≡ true → onLane x (ps ++ (p ∷ [])) ≡ onLane x ps ++ (p ∷ [])

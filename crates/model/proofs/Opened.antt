@@ -1,17 +1,17 @@
 -- Every opening's record is well formed. Assumes nothing.
 use Prim.Native.Nat.{ℕ, _*_, _<_}
 use native.Mathlib.Omega.{arith}
-use mathlib.Core.Path.{_≡_, refl, sym, _∙_, subst}
-use mathlib.Core.Logic.{_⊎_, inl, inr}
-use mathlib.Core.Bool.{Bool, true, false, _&&_}
+use mathlib.Core.Path.{_≡_, refl}
+use mathlib.Core.Logic.{inl, inr}
+use mathlib.Core.Bool.{true}
 use mathlib.Core.List.{List, []}
 use lib.Dec.{ltb, eqb}
-use borrow.Author.Tests.{ltb-true, lt-ltb, eqb-true, ne-eqb}
-use Rattle.model.specs.State.{end, linkOf, side, State}
+use borrow.Author.Tests.{lt-ltb, eqb-true, ne-eqb}
+use Rattle.model.specs.State.{end, linkOf, side}
 use Rattle.model.specs.Formed.{sized, joins, wellFormed}
 use Rattle.model.specs.Opening.{nodeIn, linksIn, opened, openFrom}
-use Rattle.model.proofs.Below.{look, and-both}
-use Rattle.model.proofs.Opening.{Tested, opens-as, opens, right-sizes, joined}
+use Rattle.model.proofs.Below.{and-both}
+use Rattle.model.proofs.Opening.{opens-as, opens, right-sizes, joined}
 use Rattle.model.proofs.Formed.{Marked, Formed, if-formed}
 
 module _ (nodes destination : ℕ) (list : List ℕ) where

@@ -1,30 +1,30 @@
 -- Each admitted number stands in exactly one of the four places, and the counts are the places' sizes. Assumes nothing.
-use Prim.Native.Nat.{ℕ, _+_, _-_, _<_, _≤_}
+use Prim.Native.Nat.{ℕ, _+_, _<_, _≤_}
 use native.Mathlib.Omega.{arith}
-use mathlib.Core.Path.{_≡_, refl, sym, _∙_, ap}
-use mathlib.Core.Logic.{_⊎_, inl, inr}
-use mathlib.Core.Bool.{Bool, true, false, cond}
+use mathlib.Core.Path.{_≡_, refl, _∙_, ap}
+use mathlib.Core.Logic.{inl, inr}
+use mathlib.Core.Bool.{Bool, false, cond}
 use mathlib.Core.List.{List, [], _∷_, _++_}
 use lib.Dec.{ltb, eqb}
 use lib.ListN.{length, length-append}
 use borrow.Author.Tests.{eqb-true, eqb-false, ne-eqb, ltb-true, ltb-false, lt-ltb, le-ltb}
 use Rattle.model.specs.Answers as answers
 use Rattle.model.specs.State.{linkOf, opp, Packet, Counts, State}
-use Rattle.model.specs.Departure.{hasOut, turn, update, door, pass}
+use Rattle.model.specs.Departure.{update, door, pass}
 use Rattle.model.specs.Outcome.{Outcome, counted, onward}
 use Rattle.model.specs.Lanes.{onLane, less, taken}
 use Rattle.model.specs.Deliver.{news}
 use Rattle.model.specs.Fail.{off, cut}
 use Rattle.model.specs.Events.{Event, send, deliver, lose, fail, event}
-use Rattle.model.specs.Opening.{opened, openFrom}
+use Rattle.model.specs.Opening.{opened}
 use Rattle.model.specs.History.{History, start, next}
 use Rattle.model.specs.Places.{Places, numbers, on, failedBy, putBy, placed, times, inAll}
 use Rattle.model.specs.Promises.{FourPlaces}
-use Rattle.model.proofs.Below.{look, clash}
+use Rattle.model.proofs.Below.{look}
 use Rattle.model.proofs.Opening.{tested, opens-as}
 use Rattle.model.proofs.Departure.{update-counts, update-flight}
 use Rattle.model.proofs.Kept.{same-counts}
-use Rattle.model.proofs.Steps.{Refused, spoilt, over, none, down, bare, full, astray, Oldest, Heard, told, known, Step, refused, at-home, strands, sends, comes-home, bounces, goes-on, loses, fails, step}
+use Rattle.model.proofs.Steps.{Refused, spoilt, over, none, down, bare, full, astray, Heard, told, known, Step, refused, at-home, strands, sends, comes-home, bounces, goes-on, loses, fails, step}
 
 -- a refused event puts nothing anywhere
 refusal : {s : State} {e : Event} {a : ℕ} → Refused s e a → eqb a answers.done ≡ false

@@ -1,5 +1,5 @@
 -- A term for each promise of specs/Promises.antt. Assumes nothing.
-use Rattle.model.specs.Promises.{CasesHold, OthersHold, FourExactly, FormedKept, WayOut, NineExactly, FailKeeps, TurnsBounded, TurnsCounted, EndsAgree, TenNever, FourPlaces}
+use Rattle.model.specs.Promises.{CasesHold, OthersHold, FourExactly, FormedKept, RefusedSame, WayOut, NineExactly, FailKeeps, TurnsBounded, TurnsCounted, EndsAgree, TenNever, FourPlaces}
 use Rattle.model.proofs.Cases as cases
 use Rattle.model.proofs.Opening as opening
 use Rattle.model.proofs.Single as single
@@ -19,6 +19,9 @@ four-exactly = opening.four-exactly
 
 pub formed-kept : FormedKept
 formed-kept = single.formed-kept
+
+pub refused-same : RefusedSame
+refused-same = single.refused-same
 
 pub way-out : WayOut
 way-out = single.way-out

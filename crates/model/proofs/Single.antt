@@ -1,7 +1,7 @@
 -- What is promised of single events: well-formedness, the way out, answer 9, a failure. Assumes nothing.
-use Prim.Native.Nat.{ℕ, _<_, _≤_}
+use Prim.Native.Nat.{ℕ, _<_}
 use native.Mathlib.Omega.{arith}
-use mathlib.Core.Path.{_≡_, refl, sym, _∙_}
+use mathlib.Core.Path.{_≡_, refl, sym, _∙_, ap}
 use mathlib.Core.Logic.{_⊎_, inl, inr}
 use mathlib.Core.Bool.{Bool, true, false, not, cond}
 use lib.Dec.{leb, eqb}
@@ -17,14 +17,14 @@ use Rattle.model.specs.Departure.{hasLive}
 use Rattle.model.specs.Outcome.{Outcome, refuse, accepting, counted, onward}
 use Rattle.model.specs.Send.{sendTo}
 use Rattle.model.specs.Fail.{cut, failOf}
-use Rattle.model.specs.Events.{Event, fail, event}
+use Rattle.model.specs.Events.{Event, event}
 use Rattle.model.specs.History.{History, start, next}
-use Rattle.model.specs.Promises.{FormedKept, WayOut, Crowded, NineExactly, FailKeeps}
+use Rattle.model.specs.Promises.{FormedKept, RefusedSame, WayOut, Crowded, NineExactly, FailKeeps}
 use Rattle.model.proofs.Below.{look, clash}
 use Rattle.model.proofs.Ends.{test-same}
 use Rattle.model.proofs.Formed.{ends-marked, formed-if}
 use Rattle.model.proofs.Departure.{door-out, update-out}
-use Rattle.model.proofs.Steps.{Refused, spoilt, over, none, down, bare, full, astray, Step, refused, at-home, strands, sends, comes-home, bounces, goes-on, loses, fails, step, answered}
+use Rattle.model.proofs.Steps.{Refused, spoilt, over, none, down, bare, full, astray, step, answered}
 use Rattle.model.proofs.Kept.{kept}
 use Rattle.model.proofs.Opened.{opening-formed}
 
@@ -44,11 +44,18 @@ spoilt-only (astray old o n) q = absurd (omega arith)
 one-never : {s : State} → History s → (e : Event) → event s e .answer ≡ answers.notFormed → ⊥
 one-never {s} h e q = elim (answered (step s e)) [
   | inl d ↦ omega (arith, d)
-  | inr r ↦ clash (formed-history h) (spoilt-only r q)
+  | inr r ↦ clash (formed-history h) (spoilt-only (r .why) q)
 ]
 
 pub formed-kept : FormedKept
 formed-kept = record { opening = opening-formed; kept = λ s e w. kept (step s e) w; history = λ s h. formed-history h; one-never = λ s h. one-never h }
+
+-- an event that is not accepted is a refusal
+turned-down : (s : State) (e : Event) → (event s e .answer ≡ answers.done → ⊥) → event s e ≡ refuse s (event s e .answer)
+turned-down s e n = elim (answered (step s e)) [ inl d ↦ absurd (n d) | inr r ↦ r .outcome ]
+
+pub refused-same : RefusedSame
+refused-same = record { record-same = λ s e n. ap (λ o. o .state) (turned-down s e n); no-packet = λ s e n. ap (λ o. o .handled) (turned-down s e n) }
 
 pub way-out : WayOut
 way-out = record { updated = λ s v e. update-out s v (λ x i m. ends-marked s e x i m .1); leads = door-out }

@@ -1,7 +1,6 @@
 -- What an event can do, case by case, each with what its tests told: every law of histories is proved by these cases. Assumes nothing.
 use Prim.Native.Nat.{ℕ, _-_, _<_, _≤_}
-use native.Mathlib.Omega.{arith}
-use mathlib.Core.Path.{_≡_, refl, sym, _∙_}
+use mathlib.Core.Path.{_≡_, refl}
 use mathlib.Core.Logic.{_⊎_, inl, inr}
 use mathlib.Core.Bool.{Bool, true, false, not, cond, xor, _&&_}
 use mathlib.Core.List.{List, [], _∷_}
@@ -22,7 +21,6 @@ use Rattle.model.specs.Deliver.{news, arrives, deliverOn}
 use Rattle.model.specs.Lose.{loseOn}
 use Rattle.model.specs.Fail.{off, cut, failOf}
 use Rattle.model.specs.Events.{Event, send, deliver, lose, fail, event}
-use Rattle.model.proofs.Below.{look, and-both}
 
 -- the record is well formed and there is room for an event
 pub record Ready (s : State) : Type 0 where
@@ -155,10 +153,14 @@ module _ (s : State) where
   step (lose x) = losing x
   step (fail l) = failing l
 
--- an answer is 0, or a refusal's
-pub answered : {s : State} {e : Event} {o : Outcome} → Step s e o → (o .answer ≡ answers.done) ⊎ Refused s e (o .answer)
+-- an answer is 0, or the outcome is a refusal with its reason
+pub record Refusal (s : State) (e : Event) (o : Outcome) : Type 0 where
+  pub why : Refused s e (o .answer)
+  pub outcome : o ≡ refuse s (o .answer)
+
+pub answered : {s : State} {e : Event} {o : Outcome} → Step s e o → (o .answer ≡ answers.done) ⊎ Refusal s e o
 unfolding onward
-answered (refused r) = inr r
+answered (refused r) = inr (record { why = r; outcome = refl })
 answered (at-home r d) = inl refl
 answered (strands r d n) = inl refl
 answered (sends r d l m) = inl refl

@@ -1,23 +1,22 @@
 -- The number of turns that the record keeps is the number of turn events. Assumes nothing.
-use Prim.Native.Nat.{ℕ, suc, _<_}
+use Prim.Native.Nat.{ℕ, suc}
 use native.Mathlib.Omega.{arith}
 use mathlib.Core.Path.{_≡_, refl, sym, _∙_, ap, subst}
-use mathlib.Core.Logic.{_⊎_, inl, inr}
-use mathlib.Core.Bool.{Bool, true, false, not, cond, xor, _&&_, _||_}
-use mathlib.Core.List.{List, [], _∷_}
+use mathlib.Core.Logic.{inl, inr}
+use mathlib.Core.Bool.{Bool, true, false, not, cond, _&&_}
 use lib.Dec.{eqb}
-use borrow.Author.Tests.{eqb-true, eq-eqb}
+use borrow.Author.Tests.{eqb-true}
 use Rattle.model.specs.Below.{any}
-use Rattle.model.specs.State.{opp, Packet, State, lanes, live}
-use Rattle.model.specs.Departure.{liveAt, outAt, hasLive, hasOut, turn, update, door, pass}
+use Rattle.model.specs.State.{opp, Packet, State, lanes}
+use Rattle.model.specs.Departure.{liveAt, outAt, hasLive, hasOut, turn, update, pass}
 use Rattle.model.specs.Outcome.{Outcome, counted, onward}
-use Rattle.model.specs.Lanes.{onLane, taken}
+use Rattle.model.specs.Lanes.{taken}
 use Rattle.model.specs.Deliver.{news}
 use Rattle.model.specs.Fail.{cut}
-use Rattle.model.specs.Events.{Event, send, deliver, event}
-use Rattle.model.specs.Opening.{opened, openFrom}
+use Rattle.model.specs.Events.{Event, deliver}
+use Rattle.model.specs.Opening.{opened}
 use Rattle.model.specs.History.{History, start, next}
-use Rattle.model.specs.Turns.{about, isAt, reversedAt, turnsIn, turnEvents}
+use Rattle.model.specs.Turns.{about, reversedAt, turnsIn, turnEvents}
 use Rattle.model.specs.Promises.{TurnsCounted}
 use Rattle.model.proofs.Below.{look, clash, and-both, any-here, any-found, any-false}
 use Rattle.model.proofs.Ends.{opp-below, test-same, test-sym, whole-live, whole-opp}
@@ -26,7 +25,7 @@ use Rattle.model.proofs.Formed.{Marked, Formed, formed-if}
 use Rattle.model.proofs.Opening.{tested, opens-as}
 use Rattle.model.proofs.Link.{partial}
 use Rattle.model.proofs.History.{Good, good}
-use Rattle.model.proofs.Steps.{Ready, Oldest, Heard, told, known, isNew, Step, refused, at-home, strands, sends, comes-home, bounces, goes-on, loses, fails, step}
+use Rattle.model.proofs.Steps.{Oldest, Heard, told, known, Step, refused, at-home, strands, sends, comes-home, bounces, goes-on, loses, fails, step}
 use Rattle.model.proofs.Kept.{heard, same-live, reached}
 use Rattle.model.proofs.Single.{formed-history}
 

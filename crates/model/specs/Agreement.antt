@@ -4,7 +4,7 @@ use mathlib.Core.Path.{_≡_}
 use mathlib.Core.Bool.{Bool, not}
 use mathlib.Core.List.{List, _++_, map}
 use lib.ListN.{replicate}
-use Rattle.model.specs.State.{Packet, State}
+use Rattle.model.specs.State.{State}
 use Rattle.model.specs.Lanes.{onLane}
 
 -- the bits on lane x, oldest sent first

@@ -1,5 +1,5 @@
 -- "a node joined to the destination by a path of k links that have not failed"
-use Prim.Native.Nat.{ℕ, zero, suc, _<_}
+use Prim.Native.Nat.{ℕ, suc, _<_}
 use mathlib.Core.Path.{_≡_}
 use mathlib.Core.Bool.{true}
 use Rattle.model.specs.State.{opp, State, lanes, whole}

@@ -5,6 +5,7 @@ use mathlib.Core.Logic.{_⊎_}
 use mathlib.Core.Bool.{true, false}
 use mathlib.Core.List.{List}
 use lib.ListN.{length}
+use Rattle.model.specs.declared.Handled.the-variants as handled
 use Rattle.model.specs.Limits.{flightMost, eventsMost}
 use Rattle.model.specs.Answers as answers
 use Rattle.model.specs.Below.{all}
@@ -45,6 +46,11 @@ pub record FormedKept : Type 0 where
   pub kept : (s : State) (e : Event) → wellFormed s ≡ true → wellFormed (event s e .state) ≡ true
   pub history : (s : State) → History s → wellFormed s ≡ true
   pub one-never : (s : State) → History s → (e : Event) → event s e .answer ≡ answers.notFormed → ⊥
+
+-- "Every refusal leaves the record .. unchanged and gives no packet."
+pub record RefusedSame : Type 0 where
+  pub record-same : (s : State) (e : Event) → (event s e .answer ≡ answers.done → ⊥) → event s e .state ≡ s
+  pub no-packet : (s : State) (e : Event) → (event s e .answer ≡ answers.done → ⊥) → event s e .handled ≡ handled.Nothing
 
 -- "Departure update at v. .. Each marked end becomes Out": after it a node with a live link has a live Out link. "the lowest-numbered live
 -- Out link": where a node has one, the way out is one, an end of that node and in range. (The first asks only that marked ends are In and
