@@ -3,7 +3,7 @@ use Prim.Native.Nat.{ℕ, zero, suc, _+_, _<_, _≤_}
 use native.Mathlib.Omega.{arith}
 use mathlib.Core.Path.{_≡_, refl, sym, _∙_, subst}
 use mathlib.Core.Logic.{_⊎_, inl, inr}
-use mathlib.Core.Bool.{Bool, true, false, _&&_, _||_, true≢false}
+use mathlib.Core.Bool.{Bool, true, false, cond, _&&_, _||_, true≢false}
 use lib.Dec.{eqb}
 use lib.ListN.{length, getD}
 use borrow.Author.Tests.{eqb-true, eqb-false}
@@ -31,6 +31,10 @@ or-either false b e = inr e
 pub or-right : (a : Bool) {b : Bool} → b ≡ true → (a || b) ≡ true
 or-right true e = refl
 or-right false e = e
+
+pub guard : (b c : Bool) → cond b false c ≡ true → (b ≡ false) × (c ≡ true)
+guard true c e = absurd (clash e refl)
+guard false c e = (refl, e)
 
 -- a number below one more is the last or below
 pub last-or-below : {i n : ℕ} → i < suc n → (i ≡ n) ⊎ (i < n)

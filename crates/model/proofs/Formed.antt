@@ -17,7 +17,7 @@ use Rattle.model.specs.Outcome.{counted, onward}
 use Rattle.model.specs.Lanes.{onLane, taken}
 use Rattle.model.specs.Deliver.{news}
 use Rattle.model.specs.Fail.{off, cut}
-use Rattle.model.proofs.Below.{look, clash, and-both, all-at, all-here}
+use Rattle.model.proofs.Below.{look, clash, and-both, guard, all-at, all-here}
 use Rattle.model.proofs.Ends.{live-whole, whole-live}
 use Rattle.model.proofs.Lanes.{less-length, off-length, Each, each-push, each-less, each-off, each-map}
 use Rattle.model.proofs.Departure.{reverse-here, door-out, update-out, update-counts}
@@ -127,15 +127,11 @@ module _ (s : State) where
       )
       (eq-eqb (s .counts .admitted) all-places (omega (arith, f .sum)))
 
--- marks after a turn, and after a cut
+-- marks after a turn
 turn-mark : (at l r o m : Bool) → (at ≡ false → r ≡ false) → (m ≡ true → (o ≡ false) × (l ≡ true))
     → cond at (l && not (r || o)) m ≡ true → ((r || o) ≡ false) × (l ≡ true)
 turn-mark true l r o m here f e = let b = and-both l (not (r || o)) e in (not-true (r || o) (b .1), b .0)
 turn-mark false l r o m here f e = rw (here refl) (f e)
-
-kept : (b m : Bool) → cond b false m ≡ true → (b ≡ false) × (m ≡ true)
-kept true m e = absurd (clash e refl)
-kept false m e = (refl, e)
 
 -- each change
 module _ (s : State) {h k : ℕ} where
@@ -221,7 +217,7 @@ module _ (s : State) {h k : ℕ} where
         within = f .within;
         room = omega (arith, f .room, off-length l (s .flight));
         marked = λ x i m.
-            let c = kept (eqb (linkOf x) l) (s .ends .mark x) m in
+            let c = guard (eqb (linkOf x) l) (s .ends .mark x) m in
             rw (c .0) (f .marked x i (c .1));
         flies = each-off (Flies s) (Flies (cut s l)) l
             (λ p e g. (g .0, live-whole (cut s l) (p .lane) (rw e (whole-live s (p .lane) (g .1))), g .2)) (s .flight) (f .flies);

@@ -11,7 +11,6 @@ use Rattle.model.specs.State.{side, opp, Packet, State, lanes}
 use Rattle.model.specs.Departure.{hasOut, update, door}
 use Rattle.model.specs.Outcome.{Outcome, counted, onward}
 use Rattle.model.specs.Lanes.{onLane, taken}
-use Rattle.model.specs.Deliver.{news}
 use Rattle.model.specs.Fail.{cut}
 use Rattle.model.specs.Events.{Event}
 use Rattle.model.specs.Opening.{linksIn, opened}
@@ -19,7 +18,7 @@ use Rattle.model.specs.History.{History, start, next}
 use Rattle.model.proofs.Below.{look, clash}
 use Rattle.model.proofs.Ends.{opp-below}
 use Rattle.model.proofs.Opening.{tested, opens-as}
-use Rattle.model.proofs.Steps.{Oldest, Heard, told, known, Step, refused, at-home, strands, sends, comes-home, bounces, goes-on, loses, fails, step}
+use Rattle.model.proofs.Steps.{Oldest, Heard, told, known, rest, Step, refused, at-home, strands, sends, comes-home, bounces, goes-on, loses, fails, step}
 use Rattle.model.proofs.Link.{Mode, partial, Link, fresh, first-arrow}
 use Rattle.model.proofs.Invariant.{at, Invariant, kept-taken, kept-pass, kept-counted, kept-news, kept-cut, raised, kept-turn}
 
@@ -32,12 +31,6 @@ differ true true e q = clash e refl
 differ true false e q = clash refl q
 differ false true e q = clash refl (sym q)
 differ false false e q = clash e refl
-
--- taking and news leave the network
-pub same-net : {s t : State} {x : ℕ} {p : Packet} → Heard s x p t → t .net ≡ s .net
-unfolding news taken
-same-net (told o n) = refl
-same-net (known n) = refl
 
 module _ (mode : Mode) where
   good-counted : (s : State) (a d l t : ℕ) → Good mode s → Good mode (counted s a d l t)
@@ -73,7 +66,7 @@ module _ (mode : Mode) where
       let u = good-counted (taken s x) 0 0 0 0 (g .0, kept-taken mode s (g .0) (g .1) x) in
       (u .0, kept-pass mode (counted (taken s x) 0 0 0 0) (u .0) (u .1) (opp x) (p .number))
   good-step {s} (goes-on {x = x} {p = p} {t = t} old h d) g =
-      good-onward (counted t 0 0 0 0) (s .net .node (opp x)) (p .number) (rw (same-net h) d) (good-counted t 0 0 0 0 (good-heard old h g))
+      good-onward (counted t 0 0 0 0) (s .net .node (opp x)) (p .number) (rw (rest h .net) d) (good-counted t 0 0 0 0 (good-heard old h g))
   good-step {s} (loses {x = x} old) g = good-counted (taken s x) 0 0 1 0 (g .0, kept-taken mode s (g .0) (g .1) x)
   good-step {s} (fails {l = l} r i u) g = good-counted (cut s l) 0 0 _ 0 (g .0, kept-cut mode s (g .0) (g .1) l)
 

@@ -12,7 +12,7 @@ use Rattle.model.specs.Outcome.{counted}
 use Rattle.model.specs.Lanes.{onLane, taken}
 use Rattle.model.specs.Deliver.{news}
 use Rattle.model.specs.Fail.{cut}
-use Rattle.model.proofs.Below.{look, clash, and-both, any-false, any-none}
+use Rattle.model.proofs.Below.{look, and-both, guard, any-false, any-none}
 use Rattle.model.proofs.Ends.{opp-opp, opp-below, opp-test, test-opp, test-same, test-sym, test-far, whole-live, whole-opp}
 use Rattle.model.proofs.Lanes.{lane-push, lane-push-other, lane-less, lane-less-other, lane-off}
 use Rattle.model.proofs.Link.{Mode, full, End, Link, link-sym, turned, grow, grow-suc, link-push, link-pop, link-hear, link-turn, one-out}
@@ -59,10 +59,6 @@ one-link mode s old new linked z else this x i w = elim (look (eqb x z)) [
         rw (else x e d, far) (linked x i w)
   ]
 ]
-
-guard : (b c : Bool) → cond b false c ≡ true → (b ≡ false) × (c ≡ true)
-guard true c e = absurd (clash e refl)
-guard false c e = (refl, e)
 
 and-last : (a b : Bool) → b ≡ false → (a && b) ≡ false
 and-last true b e = e

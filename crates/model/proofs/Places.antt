@@ -1,6 +1,7 @@
 -- Each admitted number stands in exactly one of the four places, and the counts are the places' sizes. Assumes nothing.
 use Prim.Native.Nat.{ℕ, _+_, _<_, _≤_}
 use native.Mathlib.Omega.{arith}
+use native.Mathlib.Nat.{add-zero}
 use mathlib.Core.Path.{_≡_, refl, _∙_, ap}
 use mathlib.Core.Logic.{inl, inr}
 use mathlib.Core.Bool.{Bool, false, cond}
@@ -13,7 +14,6 @@ use Rattle.model.specs.State.{linkOf, opp, Packet, Counts, State}
 use Rattle.model.specs.Departure.{update, door, pass}
 use Rattle.model.specs.Outcome.{Outcome, counted, onward}
 use Rattle.model.specs.Lanes.{onLane, less, taken}
-use Rattle.model.specs.Deliver.{news}
 use Rattle.model.specs.Fail.{off, cut}
 use Rattle.model.specs.Events.{Event, send, deliver, lose, fail, event}
 use Rattle.model.specs.Opening.{opened}
@@ -23,8 +23,7 @@ use Rattle.model.specs.Promises.{FourPlaces}
 use Rattle.model.proofs.Below.{look}
 use Rattle.model.proofs.Opening.{tested, opens-as}
 use Rattle.model.proofs.Departure.{update-counts, update-flight}
-use Rattle.model.proofs.Kept.{same-counts}
-use Rattle.model.proofs.Steps.{Refused, spoilt, over, none, down, bare, full, astray, Heard, told, known, Step, refused, at-home, strands, sends, comes-home, bounces, goes-on, loses, fails, step}
+use Rattle.model.proofs.Steps.{Refused, spoilt, over, none, down, bare, full, astray, rest, Step, refused, at-home, strands, sends, comes-home, bounces, goes-on, loses, fails, step}
 
 -- a refused event puts nothing anywhere
 refusal : {s : State} {e : Event} {a : ℕ} → Refused s e a → eqb a answers.done ≡ false
@@ -42,17 +41,9 @@ none-failed s (deliver x) a q = refl
 none-failed s (lose x) a q = refl
 none-failed s (fail l) a q = rw q
 
-same-flight : {s t : State} {x : ℕ} {p : Packet} → Heard s x p t → t .flight ≡ less x (s .flight)
-unfolding news taken
-same-flight (told o n) = refl
-same-flight (known n) = refl
-
 onward-counts : (s : State) (v n : ℕ) → onward s v n .state .counts ≡ s .counts
 unfolding onward pass
 onward-counts s v n = update-counts s v
-
-zero-right : (n : ℕ) → n + 0 ≡ n
-zero-right n = omega arith
 
 abbrev one : Bool → ℕ
 one b = cond b 1 0
@@ -130,9 +121,9 @@ module _ (a : ℕ) where
         ap (λ k. one (ltb a (k .admitted))) (onward-counts c v (s .counts .admitted)),
       )
   moved {s} (comes-home {x = x} old h d) =
-      rw (same-flight h, same-counts h, zero-right (s .counts .admitted)) (omega (arith, held-less x (s .flight) (old .first)))
+      rw (rest h .flight, rest h .counts, add-zero (s .counts .admitted)) (omega (arith, held-less x (s .flight) (old .first)))
   moved {s} (bounces {x = x} {p = p} old o n d) =
-      rw (zero-right (s .counts .admitted))
+      rw (add-zero (s .counts .admitted))
       (omega (
         arith,
         held-push (less x (s .flight)) (record { number = p .number; lane = opp x; bit = s .ends .local (opp x) }),
@@ -144,14 +135,14 @@ module _ (a : ℕ) where
       omega (
         arith,
         onward-held c v (p .number),
-        ap held (same-flight h),
+        ap held (rest h .flight),
         held-less x (s .flight) (old .first),
         ap (λ k. one (ltb a (k .admitted))) (onward-counts c v (p .number)),
-        ap (λ k. one (ltb a k)) (zero-right (t .counts .admitted)),
-        ap (λ k. one (ltb a (k .admitted))) (same-counts h),
+        ap (λ k. one (ltb a k)) (add-zero (t .counts .admitted)),
+        ap (λ k. one (ltb a (k .admitted))) (rest h .counts),
       )
-  moved {s} (loses {x = x} old) = rw (zero-right (s .counts .admitted)) (omega (arith, held-less x (s .flight) (old .first)))
-  moved {s} (fails {l = l} r i u) = rw (zero-right (s .counts .admitted)) (omega (arith, held-off l (s .flight)))
+  moved {s} (loses {x = x} old) = rw (add-zero (s .counts .admitted)) (omega (arith, held-less x (s .flight) (old .first)))
+  moved {s} (fails {l = l} r i u) = rw (add-zero (s .counts .admitted)) (omega (arith, held-off l (s .flight)))
 
   exactly : {s : State} (h : History s) → inAll a (s .flight) (placed h) ≡ one (ltb a (s .counts .admitted))
   unfolding placed opened times
@@ -188,9 +179,9 @@ grown {s} {e} (refused {a = b} r) = rw (none-failed s e b (refusal r)) (omega ar
 grown (at-home r d) = omega arith
 grown (strands r d n) = omega arith
 grown {s} (sends {v = v} r d l m) = rw (update-counts (counted s 1 0 0 0) v) (omega arith)
-grown (comes-home old h d) = rw (same-counts h) (omega arith)
+grown (comes-home old h d) = rw (rest h .counts) (omega arith)
 grown (bounces old o n d) = omega arith
-grown {s} (goes-on {x = x} {t = t} old h d) = rw (update-counts (counted t 0 0 0 0) (s .net .node (opp x)), same-counts h) (omega arith)
+grown {s} (goes-on {x = x} {t = t} old h d) = rw (update-counts (counted t 0 0 0 0) (s .net .node (opp x)), rest h .counts) (omega arith)
 grown (loses old) = omega arith
 grown {s} (fails {l = l} r i u) = omega (arith, on-length l (s .flight))
 

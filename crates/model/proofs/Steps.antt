@@ -16,7 +16,7 @@ use Rattle.model.specs.Formed.{wellFormed}
 use Rattle.model.specs.Departure.{hasLive}
 use Rattle.model.specs.Outcome.{Outcome, refuse, accepting, counted, gives, leaves, onward}
 use Rattle.model.specs.Send.{sendTo}
-use Rattle.model.specs.Lanes.{onLane, taken, withOldest, offLane}
+use Rattle.model.specs.Lanes.{onLane, less, taken, withOldest, offLane}
 use Rattle.model.specs.Deliver.{news, arrives, deliverOn}
 use Rattle.model.specs.Lose.{loseOn}
 use Rattle.model.specs.Fail.{off, cut, failOf}
@@ -43,6 +43,19 @@ isNew s x p = xor (p .bit) (s .ends .remote (opp x))
 pub data Heard (s : State) (x : ℕ) (p : Packet) : State → Type 0 where
   told : s .ends .out (opp x) ≡ true → isNew s x p ≡ true → Heard s x p (news (taken s x) (opp x))
   known : isNew s x p ≡ false → Heard s x p (taken s x)
+
+-- hearing a packet takes it out of flight; but for the ends, nothing else changes
+pub record Rest (s t : State) (x : ℕ) : Type 0 where
+  pub net : t .net ≡ s .net
+  pub up : t .up ≡ s .up
+  pub turns : t .turns ≡ s .turns
+  pub flight : t .flight ≡ less x (s .flight)
+  pub counts : t .counts ≡ s .counts
+
+pub rest : {s t : State} {x : ℕ} {p : Packet} → Heard s x p t → Rest s t x
+unfolding news taken
+rest (told o n) = record { net = refl; up = refl; turns = refl; flight = refl; counts = refl }
+rest (known n) = record { net = refl; up = refl; turns = refl; flight = refl; counts = refl }
 
 -- "When, and only then", so far as the laws ask
 pub data Refused (s : State) : Event → ℕ → Type 0 where

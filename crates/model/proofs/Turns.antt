@@ -11,7 +11,6 @@ use Rattle.model.specs.State.{opp, Packet, State, lanes}
 use Rattle.model.specs.Departure.{liveAt, outAt, hasLive, hasOut, turn, update, pass}
 use Rattle.model.specs.Outcome.{Outcome, counted, onward}
 use Rattle.model.specs.Lanes.{taken}
-use Rattle.model.specs.Deliver.{news}
 use Rattle.model.specs.Fail.{cut}
 use Rattle.model.specs.Events.{Event, deliver}
 use Rattle.model.specs.Opening.{opened}
@@ -25,7 +24,7 @@ use Rattle.model.proofs.Formed.{Marked, Formed, formed-if}
 use Rattle.model.proofs.Opening.{tested, opens-as}
 use Rattle.model.proofs.Link.{partial}
 use Rattle.model.proofs.History.{Good, good}
-use Rattle.model.proofs.Steps.{Oldest, Heard, told, known, Step, refused, at-home, strands, sends, comes-home, bounces, goes-on, loses, fails, step}
+use Rattle.model.proofs.Steps.{Oldest, Heard, told, known, rest, Step, refused, at-home, strands, sends, comes-home, bounces, goes-on, loses, fails, step}
 use Rattle.model.proofs.Kept.{heard, same-live, reached}
 use Rattle.model.proofs.Single.{formed-history}
 
@@ -76,11 +75,6 @@ unfolding about
 about-heard {s} {x = x} old (told o n) = rw (old .first, o, n)
 about-heard {s} {x = x} old (known n) = elim (look (s .ends .out (opp x))) [ inl o ↦ rw (old .first, o, n) | inr o ↦ rw (old .first, o) ]
 
-same-turns : {s t : State} {x : ℕ} {p : Packet} → Heard s x p t → t .turns ≡ s .turns
-unfolding news taken
-same-turns (told o n) = refl
-same-turns (known n) = refl
-
 -- a node with a live Out link does not turn
 no-turn : (t after : State) (v : ℕ) → hasOut t v ≡ true → (u : ℕ) → turning t v after u ≡ false
 no-turn t after v o u = elim (look (eqb v u)) [
@@ -107,12 +101,12 @@ counted-step (refused r) f u = refl
 counted-step (at-home r d) f u = refl
 counted-step (strands r d n) f u = refl
 counted-step {s} (sends {v = v} r d l m) f u = onward-turns (counted s 1 0 0 0) v (s .counts .admitted) (f .marked) l u
-counted-step (comes-home old h d) f u = rw (same-turns h)
+counted-step (comes-home old h d) f u = rw (rest h .turns)
 counted-step {s} {o = out} (bounces {x = x} {p = p} old o n d) f u =
     rw (about-heard old (known n))
     (sym (ap (λ b. cond b (suc (s .turns u)) (s .turns u)) (no-turn (taken s x) (out .state) (s .net .node (opp x)) (still-out old o) u)))
 counted-step {s} (goes-on {x = x} {p = p} {t = t} old h d) f u =
-    rw (about-heard old h, ← same-turns h)
+    rw (about-heard old h, ← rest h .turns)
     (onward-turns (counted t 0 0 0 0) (s .net .node (opp x)) (p .number) (heard old h f .marked)
     (same-live h (s .net .node (opp x)) ∙ reached old) u)
 counted-step (loses old) f u = refl
