@@ -5,3 +5,10 @@ pub mod Patches
 pub mod Turns
 pub mod Flights
 pub mod Packets
+pub mod Ways
+pub mod Tallies
+pub mod Sounds
+pub mod Sends
+pub mod OffLanes
+pub mod Cuts
+pub mod Deliveries

@@ -1,3 +1,4 @@
 pub mod View
 pub mod Turned
 pub mod Flight
+pub mod Steps

@@ -1,8 +1,14 @@
 // The network: its record, and every call that moves an arrow.
 mod chain;
+mod deliver;
+mod depart;
+mod fail;
 mod flight;
+mod lose;
 mod record;
 mod search;
+mod send;
+mod tally;
 mod turn;
 
 pub use record::Network;

@@ -1,5 +1,10 @@
 // The record: flat arrays, one entry per link end, link, node or packet, and its counts.
+use model::Handled;
+use model::Went;
 ghost use mathlib.Core.Path.{_≡_};
+ghost use Prim.Native.Nat.{_<_};
+ghost use Rattle.model.specs.Limits.{endsMost};
+ghost use Rattle.model.specs.State.{opp};
 
 // Packets move in blocks of so many; slots past the limit are room for that.
 pub(crate) const MOVES: usize = 32;
@@ -48,4 +53,20 @@ pub(crate) fn wide(x: u16) -> usize
     ensures { λ r. ⌜ r ≡ x ⌝ }
 {
     x as usize
+}
+
+// The other end of the same link.
+pub(crate) fn other(x: usize) -> usize
+    requires { ⌜ x < endsMost ⌝ }
+    ensures { λ r. ⌜ (r ≡ opp x) × (r < endsMost) ⌝ }
+{
+    x + 1 - 2 * (x % 2)
+}
+
+// What an event gives beside the arrays that it changed.
+pub struct Step {
+    pub tally: Tally,
+    pub answer: u32,
+    pub handled: Handled,
+    pub went: Went,
 }
