@@ -12,3 +12,10 @@ pub mod Sends
 pub mod OffLanes
 pub mod Cuts
 pub mod Deliveries
+pub mod Below
+pub mod Loops
+pub mod WellFormed
+pub mod ClosedWalks
+pub mod Filled
+pub mod Openings
+pub mod OneOutcome

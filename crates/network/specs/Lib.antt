@@ -2,3 +2,5 @@ pub mod View
 pub mod Turned
 pub mod Flight
 pub mod Steps
+pub mod Formed
+pub mod Opening
