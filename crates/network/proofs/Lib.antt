@@ -19,3 +19,4 @@ pub mod ClosedWalks
 pub mod Filled
 pub mod Openings
 pub mod OneOutcome
+pub mod Calls

@@ -4,3 +4,4 @@ pub mod Flight
 pub mod Steps
 pub mod Formed
 pub mod Opening
+pub mod Calls

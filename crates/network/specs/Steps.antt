@@ -5,7 +5,7 @@ use mathlib.Core.Bool.{Bool, true, false, cond}
 use mathlib.Core.List.{List}
 use lib.Dec.{eqb}
 use lib.ListN.{length, getD}
-use Rattle.model.specs.Limits.{nodesMost, eventsMost}
+use Rattle.model.specs.Limits.{nodesMost, linksMost, endsMost, eventsMost}
 use Rattle.model.specs.State.{State}
 use Rattle.model.specs.declared.Went.the-variants as went
 use Rattle.model.specs.Outcome.{Outcome, counted, gives, leaves, onward}
@@ -28,6 +28,12 @@ pub record Room (out local mark : List Bool) (turns number lane : List ℕ) (bit
   pub long : Long out local mark
   pub turns-long : length turns ≡ nodesMost
   pub room : Slots number lane bit
+
+-- and so has every array that any event can change
+pub record Whole (live out local remote mark : List Bool) (turns number lane : List ℕ) (bit : List Bool) : Type 0 where
+  pub live-long : length live ≡ linksMost
+  pub remote-long : length remote ≡ endsMost
+  pub more : Room out local mark turns number lane bit
 
 -- where the chains are used they are right
 abbrev pub Chained : Bool → ℕ → List ℕ → List ℕ → List ℕ → Type 0

@@ -2,6 +2,7 @@
 mod chain;
 mod deliver;
 mod depart;
+mod events;
 mod fail;
 mod flight;
 mod formed;
@@ -13,14 +14,25 @@ mod send;
 mod tally;
 mod turn;
 
+pub use events::DELIVER;
+pub use events::FAIL;
+pub use events::LOSE;
+pub use events::SEND;
+use events::step;
 pub use opening::Opened;
+pub use record::Moved;
 pub use record::Network;
 pub use record::SLOTS;
 pub use record::Tally;
 ghost use mathlib.Core.Path.{_≡_};
 ghost use Rattle.model.specs.Formed.{wellFormed};
+ghost use Rattle.model.specs.Send.{sendTo};
+ghost use Rattle.model.specs.Deliver.{deliverOn};
+ghost use Rattle.model.specs.Lose.{loseOn};
+ghost use Rattle.model.specs.Fail.{failOf};
 ghost use Rattle.network.specs.View.{view};
 ghost use Rattle.network.specs.Opening.{OpenPost};
+ghost use Rattle.network.specs.Calls.{call, CallPost};
 
 impl Network {
     // "A record is well formed when .."
@@ -48,6 +60,133 @@ impl Network {
             self.links,
             tally,
         )
+    }
+
+    // An event by its kind and argument; a kind that is none is refused with 6, after 1 and 5.
+    pub fn apply(self, kind: u32, argument: usize) -> Moved
+        ensures { λ r. ⌜ CallPost self (call (view self) kind argument) r ⌝ }
+    {
+        let tally = Tally {
+            flying: self.flying,
+            events: self.events,
+            admitted: self.admitted,
+            delivered: self.delivered,
+            lost: self.lost,
+            stranded: self.stranded,
+        };
+        let sound = formed::formed(
+            &self.node,
+            &self.live,
+            &self.out,
+            &self.mark,
+            &self.turns,
+            &self.number,
+            &self.lane,
+            self.nodes,
+            self.destination,
+            self.links,
+            tally,
+        );
+        let mut live = self.live;
+        let mut out = self.out;
+        let mut local = self.local;
+        let mut remote = self.remote;
+        let mut mark = self.mark;
+        let mut turns = self.turns;
+        let mut number = self.number;
+        let mut lane = self.lane;
+        let mut bit = self.bit;
+        // no chain is threaded for one event
+        let heads = [0u16; model::NODES];
+        let r = step(
+            sound,
+            &self.node,
+            &heads,
+            &self.node,
+            false,
+            &mut live,
+            &mut out,
+            &mut local,
+            &mut remote,
+            &mut mark,
+            &mut turns,
+            &mut number,
+            &mut lane,
+            &mut bit,
+            self.nodes,
+            self.destination,
+            self.links,
+            tally,
+            kind,
+            argument,
+        );
+        let t = r.tally;
+        let answer = r.answer;
+        let handled = r.handled;
+        let went = r.went;
+        if answer != 0 {
+            return Moved {
+                network: self,
+                answer,
+                handled,
+                went,
+            };
+        }
+        let network = Network {
+            node: self.node,
+            live,
+            out,
+            local,
+            remote,
+            mark,
+            turns,
+            number,
+            lane,
+            bit,
+            nodes: self.nodes,
+            destination: self.destination,
+            links: self.links,
+            flying: t.flying,
+            events: t.events,
+            admitted: t.admitted,
+            delivered: t.delivered,
+            lost: t.lost,
+            stranded: t.stranded,
+        };
+        Moved {
+            network,
+            answer,
+            handled,
+            went,
+        }
+    }
+
+    // "Send at node v."
+    pub fn send(self, v: usize) -> Moved
+        ensures { λ r. ⌜ CallPost self (sendTo (view self) v) r ⌝ }
+    {
+        self.apply(SEND, v)
+    }
+
+    // "Deliver on lane x": the oldest packet.
+    pub fn deliver(self, x: usize) -> Moved
+        ensures { λ r. ⌜ CallPost self (deliverOn (view self) x) r ⌝ }
+    {
+        self.apply(DELIVER, x)
+    }
+
+    // "Lose on lane x": the oldest packet.
+    pub fn lose(self, x: usize) -> Moved
+        ensures { λ r. ⌜ CallPost self (loseOn (view self) x) r ⌝ }
+    {
+        self.apply(LOSE, x)
+    }
+
+    // "Fail link l."
+    pub fn fail(self, l: usize) -> Moved
+        ensures { λ r. ⌜ CallPost self (failOf (view self) l) r ⌝ }
+    {
+        self.apply(FAIL, l)
     }
 }
 

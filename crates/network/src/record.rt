@@ -70,3 +70,11 @@ pub struct Step {
     pub handled: Handled,
     pub went: Went,
 }
+
+// What a call hands back.
+pub struct Moved {
+    pub network: Network,
+    pub answer: u32,
+    pub handled: Handled,
+    pub went: Went,
+}
