@@ -14,6 +14,9 @@ use crate::random::Random;
 /// The largest number drawn or handed in.
 const HUGE: u32 = 4_294_967_295;
 
+/// A node or lane far past any: sixteen bits hold it.
+const FAR: u32 = 65_535;
+
 type Part = fn(&mut Random, &mut String);
 
 const PARTS: [(&str, Part); 5] = [

@@ -1,7 +1,7 @@
 //! The ways a record is spoilt, numbered as in docs/CALLS.md. Some of them
 //! leave it well formed: they are the good side of a bound.
 
-use crate::calls::HUGE;
+use crate::calls::{FAR, HUGE};
 use crate::limits::{EVENTS, LINKS, NODES, PACKETS};
 use crate::random::Random;
 use crate::record::{Direction, End, Link, Record};
@@ -108,7 +108,7 @@ fn spoil_end(base: &mut Base, drawn: &Drawn, number: u32) {
         33 => end.node = NODES,
         34 => end.node = other,
         35 => end.node = 1000,
-        36 => end.node = HUGE,
+        36 => end.node = FAR,
         37 => link.live = !link.live,
         38 => {
             end.direction = match end.direction {
@@ -191,7 +191,7 @@ fn spoil_packet(base: &mut Base, drawn: &Drawn, number: u32) {
         63 => packet.lane = down.unwrap_or(packet.lane),
         64 => packet.lane = 2 * LINKS,
         65 => packet.lane = 1000,
-        66 => packet.lane = HUGE,
+        66 => packet.lane = FAR,
         67 => packet.bit = !packet.bit,
         _ => {
             let link = packet.lane as usize / 2;
@@ -249,14 +249,14 @@ fn spoil_unused(base: &mut Base, number: u32) {
         }
         92 => {
             if let Some(link) = r.link.get_mut(base.links as usize) {
-                link.ends[0].node = HUGE;
+                link.ends[0].node = FAR;
                 link.ends[1].mark = true;
             }
         }
         _ => {
             if let Some(packet) = r.flight.get_mut(base.in_flight as usize) {
                 packet.number = HUGE;
-                packet.lane = HUGE;
+                packet.lane = FAR;
             }
         }
     }
