@@ -20,3 +20,4 @@ pub mod Filled
 pub mod Openings
 pub mod OneOutcome
 pub mod Calls
+pub mod Bursts

@@ -33,6 +33,20 @@ pub(crate) fn thread(node: &[u16; model::ENDS], links: usize) -> Threads
     Threads { heads, next }
 }
 
+// The chains of a record that was found sound; else none, and nobody asks for one.
+pub(crate) fn threads_if(sound: bool, node: &[u16; model::ENDS], links: usize) -> Threads
+    requires { ⌜ (sound ≡ true → (links ≤ linksMost) × Named nodesMost links (now node)) ⌝ }
+    ensures { λ r. ⌜ (sound ≡ true → (v : ℕ) → v < nodesMost → Chain links (now (node .entry)) (r .heads) (r .next) v) ⌝ }
+{
+    if sound {
+        return thread(node, links);
+    }
+    Threads {
+        heads: [0; model::NODES],
+        next: [0; model::ENDS],
+    }
+}
+
 // The first live Out end of the node, or the number of ends: along its chain, or over all links.
 pub(crate) fn way<'a>(
     node: &'a [u16; model::ENDS],

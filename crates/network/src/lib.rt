@@ -1,4 +1,5 @@
 // The network: its record, and every call that moves an arrow.
+mod burst;
 mod chain;
 mod deliver;
 mod depart;
@@ -14,12 +15,16 @@ mod send;
 mod tally;
 mod turn;
 
+use burst::lesser;
+use burst::run;
+use chain::threads_if;
 pub use events::DELIVER;
 pub use events::FAIL;
 pub use events::LOSE;
 pub use events::SEND;
 use events::step;
 pub use opening::Opened;
+pub use record::Burst;
 pub use record::Moved;
 pub use record::Network;
 pub use record::SLOTS;
@@ -32,7 +37,7 @@ ghost use Rattle.model.specs.Lose.{loseOn};
 ghost use Rattle.model.specs.Fail.{failOf};
 ghost use Rattle.network.specs.View.{view};
 ghost use Rattle.network.specs.Opening.{OpenPost};
-ghost use Rattle.network.specs.Calls.{call, CallPost};
+ghost use Rattle.network.specs.Calls.{call, CallPost, BurstPost};
 
 impl Network {
     // "A record is well formed when .."
@@ -187,6 +192,113 @@ impl Network {
         ensures { λ r. ⌜ CallPost self (failOf (view self) l) r ⌝ }
     {
         self.apply(FAIL, l)
+    }
+
+    // As many calls as the shortest list holds, one after the other; the record is checked once.
+    pub fn burst<'a>(
+        self,
+        kinds: &'a [u32],
+        arguments: &'a [u32],
+        answers: &mut [u32],
+        packets: &mut [u32],
+        ways: &mut [usize],
+    ) -> Burst
+        ensures { λ r. ⌜ BurstPost self (now (kinds .entry)) (now (arguments .entry)) (now (answers .entry)) (now (packets .entry)) (now (ways .entry)) (now (answers .exit)) (now (packets .exit)) (now (ways .exit)) r ⌝ }
+    {
+        let tally = Tally {
+            flying: self.flying,
+            events: self.events,
+            admitted: self.admitted,
+            delivered: self.delivered,
+            lost: self.lost,
+            stranded: self.stranded,
+        };
+        let sound = formed::formed(
+            &self.node,
+            &self.live,
+            &self.out,
+            &self.mark,
+            &self.turns,
+            &self.number,
+            &self.lane,
+            self.nodes,
+            self.destination,
+            self.links,
+            tally,
+        );
+        let count = lesser(
+            kinds.len(),
+            lesser(
+                arguments.len(),
+                lesser(answers.len(), lesser(packets.len(), ways.len())),
+            ),
+        );
+        let threads = threads_if(sound, &self.node, self.links);
+        let heads = threads.heads;
+        let next = threads.next;
+        let mut live = self.live;
+        let mut out = self.out;
+        let mut local = self.local;
+        let mut remote = self.remote;
+        let mut mark = self.mark;
+        let mut turns = self.turns;
+        let mut number = self.number;
+        let mut lane = self.lane;
+        let mut bit = self.bit;
+        let t = run(
+            sound,
+            &self.node,
+            &heads,
+            &next,
+            sound,
+            &mut live,
+            &mut out,
+            &mut local,
+            &mut remote,
+            &mut mark,
+            &mut turns,
+            &mut number,
+            &mut lane,
+            &mut bit,
+            self.nodes,
+            self.destination,
+            self.links,
+            tally,
+            kinds,
+            arguments,
+            answers,
+            packets,
+            ways,
+            count,
+        );
+        if !sound {
+            return Burst {
+                network: self,
+                count,
+            };
+        }
+        let network = Network {
+            node: self.node,
+            live,
+            out,
+            local,
+            remote,
+            mark,
+            turns,
+            number,
+            lane,
+            bit,
+            nodes: self.nodes,
+            destination: self.destination,
+            links: self.links,
+            flying: t.flying,
+            events: t.events,
+            admitted: t.admitted,
+            delivered: t.delivered,
+            lost: t.lost,
+            stranded: t.stranded,
+        };
+        Burst { network, count }
     }
 }
 

@@ -55,6 +55,13 @@ pub(crate) fn wide(x: u16) -> usize
     x as usize
 }
 
+// An argument as an index.
+pub(crate) fn index(x: u32) -> usize
+    ensures { λ r. ⌜ r ≡ x ⌝ }
+{
+    x as usize
+}
+
 // The other end of the same link.
 pub(crate) fn other(x: usize) -> usize
     requires { ⌜ x < endsMost ⌝ }
@@ -77,4 +84,10 @@ pub struct Moved {
     pub answer: u32,
     pub handled: Handled,
     pub went: Went,
+}
+
+// What a burst hands back: so many calls were made.
+pub struct Burst {
+    pub network: Network,
+    pub count: usize,
 }
