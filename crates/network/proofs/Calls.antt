@@ -79,7 +79,7 @@ module _ (s : State) where
   call-unknown kind a h m n1 n2 n3 n4 =
       rw (ne-eqb kind 1 n1, ne-eqb kind 2 n2, ne-eqb kind 3 n3, ne-eqb kind 4 n4, h, lt-leb eventsMost (s .counts .events) m)
 
-  none-kept : accepting s (refuse s answers.noSuch) .state ≡ s
+  pub none-kept : accepting s (refuse s answers.noSuch) .state ≡ s
   unfolding accepting
   none-kept = elim (look (wellFormed s)) [
     | inl h ↦ elim (look (leb eventsMost (s .counts .events))) [ inl m ↦ rw (h, m) | inr m ↦ rw (h, m) ]

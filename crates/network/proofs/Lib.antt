@@ -21,3 +21,4 @@ pub mod Openings
 pub mod OneOutcome
 pub mod Calls
 pub mod Bursts
+pub mod Runs

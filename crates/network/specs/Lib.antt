@@ -5,3 +5,4 @@ pub mod Steps
 pub mod Formed
 pub mod Opening
 pub mod Calls
+pub mod Runs
