@@ -105,3 +105,8 @@ module _ (net : Net) (live out local remote mark : List Bool) (turns : List ℕ)
         counts = counts;
       })
       ∙ ap (λ s. news s y) e
+
+  pub heard-is : {s : State} (out′ remote′ : List Bool) → out′ ≡ set out y false → remote′ ≡ set remote y (not q)
+      → stateOf net live (endsOf (net .links) out local remote mark) turns flight counts ≡ s
+      → stateOf net live (endsOf (net .links) out′ local remote′ mark) turns flight counts ≡ news s y
+  heard-is out′ remote′ eo er e = rw (eo, er) (news-is e)

@@ -13,10 +13,10 @@ use crate::tally::counted;
 use crate::tally::done;
 use model::Went;
 ghost use mathlib.Core.Path.{_≡_};
-ghost use mathlib.Core.Bool.{Bool, true};
+ghost use mathlib.Core.Bool.{Bool, true, false, not};
 ghost use mathlib.Core.List.{List, []};
 ghost use Prim.Native.Nat.{ℕ, _*_, _≤_, _<_};
-ghost use lib.ListN.{getD, length};
+ghost use lib.ListN.{getD, set, length};
 ghost use Rattle.model.specs.Limits.{nodesMost, linksMost, endsMost, flightMost, eventsMost};
 ghost use Rattle.model.specs.Formed.{wellFormed};
 ghost use Rattle.model.specs.Departure.{hasLive};
@@ -106,6 +106,16 @@ fn bounce(
     )
 }
 
+// News at an Out end: its neighbour has turned the arrow.
+fn hear(out: &mut [bool; model::ENDS], remote: &mut [bool; model::ENDS], y: usize)
+    requires { ⌜ (y < endsMost) × (length (now out) ≡ endsMost) × (length (now remote) ≡ endsMost) ⌝ }
+    ensures { λ _. ⌜ (now (out .exit) ≡ set (now (out .entry)) y false) × (now (remote .exit) ≡ set (now (remote .entry)) y (not (getD (now (remote .entry)) y false))) ⌝ }
+{
+    out[y] = false;
+    let q = remote[y];
+    remote[y] = !q;
+}
+
 pub(crate) fn deliver_step<'a>(
     node: &'a [u16; model::ENDS],
     heads: &'a [u16; model::NODES],
@@ -154,8 +164,7 @@ pub(crate) fn deliver_step<'a>(
     t.flying = last;
     take_out(number, lane, bit, i, last);
     if fresh {
-        out[y] = false;
-        remote[y] = !q;
+        hear(out, remote, y);
         return land(
             node,
             heads,

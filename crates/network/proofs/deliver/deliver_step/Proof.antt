@@ -4,7 +4,7 @@ use native.Mathlib.Omega.{arith}
 use mathlib.Core.Path.{_≡_, refl, sym, ap, _∙_}
 use mathlib.Core.Bool.{Bool, true, false, not, xor, _&&_, _||_}
 use mathlib.Core.List.{[]}
-use lib.ListN.{getD, set, length-set}
+use lib.ListN.{getD, set, length, length-set}
 use denote.Ref.{now}
 use borrow.Author.Tests.{not-true, not-false}
 use Rattle.model.specs.State.{State, opp}
@@ -19,7 +19,7 @@ use Rattle.network.specs.Steps.{stateAt, outcomeOf, landed, bounced}
 use Rattle.network.proofs.Searches.{used-in}
 use Rattle.network.proofs.Sounds.{sound-if}
 use Rattle.network.proofs.OffLanes.{off-no-such, off-down, off-empty, off-oldest, took-is, none-there, oldest-there, rest-there, slots-kept}
-use Rattle.network.proofs.Deliveries.{fresh-is, out-of-step, deal-news, deal-bounce, deal-on, held-at, news-is}
+use Rattle.network.proofs.Deliveries.{fresh-is, out-of-step, deal-news, deal-bounce, deal-on, held-at, heard-is}
 use borrow.Author.Needs.{needs}
 use Rattle.network.proofs.deliver.deliver_step.Statement.{statement}
 use Rattle.network.proofs.deliver.deliver_step.Tie as tie
@@ -123,28 +123,27 @@ take-out-requires c κs =
     let a = c .before .before .before .before .before .before .before .before .before .before .before .before .before .before .before .before .before .args in
     let s = sound-if (now (a .node)) (now (a .live)) (now (a .out)) (now (a .local)) (now (a .remote)) (now (a .mark)) (now (a .turns)) (now (a .number)) (now (a .lane)) (now (a .bit)) (a .nodes) (a .destination) (a .links) (a .tally) (c .before .before .before .before .before .before .before .before .before .before .before .before .before .before .before .before .before .pre .0) in (omega (arith, c .before .before .before .before .before .before .before .before .before .before .before .if3 .left), omega (arith, s .flying, c .before .before .before .before .before .before .before .before .before .before .before .if3 .left), c .before .before .before .before .before .before .before .before .before .before .before .before .before .before .before .before .before .pre .2 .room)
 
-element-write-out : tie.Need-element-write-out
-element-write-out c = search needs
-
-element-write-remote : tie.Need-element-write-remote
-element-write-remote c = search needs
+hear-requires : tie.Need-hear-requires
+hear-requires c κs =
+    let a = c .before .before .before .before .before .before .before .before .before .before .before .before .before .before .before .before .before .before .before .before .before .args in
+    let s = sound-if (now (a .node)) (now (a .live)) (now (a .out)) (now (a .local)) (now (a .remote)) (now (a .mark)) (now (a .turns)) (now (a .number)) (now (a .lane)) (now (a .bit)) (a .nodes) (a .destination) (a .links) (a .tally) (c .before .before .before .before .before .before .before .before .before .before .before .before .before .before .before .before .before .before .before .before .before .pre .0) in let y : c .before .before .before .before .before .before .before .before .before .before .before .before .before .before .other .result < 2 * a .links = (omega (arith, c .before .before .before .before .before .before .before .before .before .before .before .before .before .before .other .ensures .0, opp-below (a .x) (a .links) (c .before .before .before .before .before .before .before .before .before .before .before .before .before .before .before .before .before .before .before .before .if1 .left))) in (omega (arith, s .sizes .links-most, y), c .before .before .before .before .before .before .before .before .before .before .before .before .before .before .before .before .before .before .before .before .before .pre .2 .long .out-long, c .before .before .before .before .before .before .before .before .before .before .before .before .before .before .before .before .before .before .before .before .before .pre .4)
 
 land-requires : tie.Need-land-requires
 land-requires c κs =
-    let a = c .before .before .before .before .before .before .before .before .before .before .before .before .before .before .before .before .before .before .before .before .before .before .before .before .before .before .args in
-    let s = sound-if (now (a .node)) (now (a .live)) (now (a .out)) (now (a .local)) (now (a .remote)) (now (a .mark)) (now (a .turns)) (now (a .number)) (now (a .lane)) (now (a .bit)) (a .nodes) (a .destination) (a .links) (a .tally) (c .before .before .before .before .before .before .before .before .before .before .before .before .before .before .before .before .before .before .before .before .before .before .before .before .before .before .pre .0) in
-    let fair = s .fair (c .before .before .before .before .before .before .before .before .before .before .before .before .before .before .before .before .before .before .before .before .before .before .before .before .before .before .pre .1) in
-    let v = c .before .before .before .before .before .before .before .before .before .before .before .before .before .wide .ensures in
-    let here : c .before .before .before .before .before .before .before .before .before .before .before .before .before .wide .result < a .nodes = omega (arith, v, s .named (c .before .before .before .before .before .before .before .before .before .before .before .before .before .before .before .before .before .before .before .other .result) (omega (arith, c .before .before .before .before .before .before .before .before .before .before .before .before .before .before .before .before .before .before .before .other .ensures .0, opp-below (a .x) (a .links) (c .before .before .before .before .before .before .before .before .before .before .before .before .before .before .before .before .before .before .before .before .before .before .before .before .before .if1 .left)))) in (
+    let a = c .before .before .before .before .before .before .before .before .before .before .before .before .before .before .before .before .before .before .before .before .before .before .before .before .before .before .before .before .before .args in
+    let s = sound-if (now (a .node)) (now (a .live)) (now (a .out)) (now (a .local)) (now (a .remote)) (now (a .mark)) (now (a .turns)) (now (a .number)) (now (a .lane)) (now (a .bit)) (a .nodes) (a .destination) (a .links) (a .tally) (c .before .before .before .before .before .before .before .before .before .before .before .before .before .before .before .before .before .before .before .before .before .before .before .before .before .before .before .before .before .pre .0) in
+    let fair = s .fair (c .before .before .before .before .before .before .before .before .before .before .before .before .before .before .before .before .before .before .before .before .before .before .before .before .before .before .before .before .before .pre .1) in
+    let v = c .before .before .before .before .before .before .before .before .before .before .before .before .before .before .before .before .wide .ensures in
+    let here : c .before .before .before .before .before .before .before .before .before .before .before .before .before .before .before .before .wide .result < a .nodes = omega (arith, v, s .named (c .before .before .before .before .before .before .before .before .before .before .before .before .before .before .before .before .before .before .before .before .before .before .other .result) (omega (arith, c .before .before .before .before .before .before .before .before .before .before .before .before .before .before .before .before .before .before .before .before .before .before .other .ensures .0, opp-below (a .x) (a .links) (c .before .before .before .before .before .before .before .before .before .before .before .before .before .before .before .before .before .before .before .before .before .before .before .before .before .before .before .before .if1 .left)))) in (
       s .sizes .links-most,
       s .sizes .nodes-most,
       here,
-      omega (arith, s .turned (c .before .before .before .before .before .before .before .before .before .before .before .before .before .wide .result) here, c .before .before .before .before .before .before .before .before .before .before .before .before .before .before .before .before .before .before .before .before .before .before .before .before .before .before .pre .1),
-      omega (arith, s .flying, c .before .before .before .before .before .before .before .before .before .before .before .before .before .before .before .before .before .before .before .before .if3 .left),
-      held-at (stateAt (now (a .node)) (now (a .live)) (set (now (a .out)) (c .before .before .before .before .before .before .before .before .before .before .before .before .before .before .before .before .before .before .before .other .result) false) (now (a .local)) [] (now (a .mark)) (now (a .turns)) (c .before .before .before .before .before .before .before .before .take-out .last .0) (c .before .before .before .before .before .before .before .before .take-out .last .1 .0) (c .before .before .before .before .before .before .before .before .take-out .last .1 .1 .0) (a .nodes) 0 (a .links) (record { flying = (a .tally .flying - 1); events = a .tally .events; admitted = a .tally .admitted; delivered = a .tally .delivered; lost = a .tally .lost; stranded = a .tally .stranded })) (c .before .before .before .before .before .before .before .before .before .before .before .before .before .wide .result) (c .before .before .before .before .before .before .before .before .before .before .before .before .before .before .before .before .before .before .before .other .result) (omega (arith, c .before .before .before .before .before .before .before .before .before .before .before .before .before .before .before .before .before .before .before .other .ensures .0, opp-below (a .x) (a .links) (c .before .before .before .before .before .before .before .before .before .before .before .before .before .before .before .before .before .before .before .before .before .before .before .before .before .if1 .left))) (sym (c .before .before .before .before .before .before .before .before .before .before .before .before .before .wide .ensures ∙ sym (used-in (2 * a .links) 0 (now (a .node)) (c .before .before .before .before .before .before .before .before .before .before .before .before .before .before .before .before .before .before .before .other .result) (omega (arith, c .before .before .before .before .before .before .before .before .before .before .before .before .before .before .before .before .before .before .before .other .ensures .0, opp-below (a .x) (a .links) (c .before .before .before .before .before .before .before .before .before .before .before .before .before .before .before .before .before .before .before .before .before .before .before .before .before .if1 .left))))))
-          (used-in (a .links) false (now (a .live)) (c .before .before .before .before .before .before .before .before .before .before .before .before .before .before .before .before .before .before .before .other .result / 2) (omega (arith, c .before .before .before .before .before .before .before .before .before .before .before .before .before .before .before .before .before .before .before .other .ensures .0, opp-below (a .x) (a .links) (c .before .before .before .before .before .before .before .before .before .before .before .before .before .before .before .before .before .before .before .before .before .before .before .before .before .if1 .left))) ∙ ap (λ l. getD (now (a .live)) l false) (ap (λ z. z / 2) (c .before .before .before .before .before .before .before .before .before .before .before .before .before .before .before .before .before .before .before .other .ensures .0) ∙ link-opp (a .x)) ∙ not-false _ (c .before .before .before .before .before .before .before .before .before .before .before .before .before .before .before .before .before .before .before .before .before .before .before .if2 .left)),
-      record { long = record { out-long = length-set (now (a .out)) (c .before .before .before .before .before .before .before .before .before .before .before .before .before .before .before .before .before .before .before .other .result) false ∙ c .before .before .before .before .before .before .before .before .before .before .before .before .before .before .before .before .before .before .before .before .before .before .before .before .before .before .pre .2 .long .out-long; local-long = c .before .before .before .before .before .before .before .before .before .before .before .before .before .before .before .before .before .before .before .before .before .before .before .before .before .before .pre .2 .long .local-long; mark-long = c .before .before .before .before .before .before .before .before .before .before .before .before .before .before .before .before .before .before .before .before .before .before .before .before .before .before .pre .2 .long .mark-long }; turns-long = c .before .before .before .before .before .before .before .before .before .before .before .before .before .before .before .before .before .before .before .before .before .before .before .before .before .before .pre .2 .turns-long; room = slots-kept (c .before .before .before .before .before .before .before .before .before .before .before .before .before .before .before .before .before .before .before .before .before .before .before .before .before .before .pre .2 .room) (c .before .before .before .before .before .before .before .before .take-out .ensures) },
-      c .before .before .before .before .before .before .before .before .before .before .before .before .before .before .before .before .before .before .before .before .before .before .before .before .before .before .pre .3,
+      omega (arith, s .turned (c .before .before .before .before .before .before .before .before .before .before .before .before .before .before .before .before .wide .result) here, c .before .before .before .before .before .before .before .before .before .before .before .before .before .before .before .before .before .before .before .before .before .before .before .before .before .before .before .before .before .pre .1),
+      omega (arith, s .flying, c .before .before .before .before .before .before .before .before .before .before .before .before .before .before .before .before .before .before .before .before .before .before .before .if3 .left),
+      held-at (stateAt (now (a .node)) (now (a .live)) (c .before .before .before .before .before .before .before .hear .last .0) (now (a .local)) [] (now (a .mark)) (now (a .turns)) (c .before .before .before .before .before .before .before .before .before .before .before .take-out .last .0) (c .before .before .before .before .before .before .before .before .before .before .before .take-out .last .1 .0) (c .before .before .before .before .before .before .before .before .before .before .before .take-out .last .1 .1 .0) (a .nodes) 0 (a .links) (record { flying = (a .tally .flying - 1); events = a .tally .events; admitted = a .tally .admitted; delivered = a .tally .delivered; lost = a .tally .lost; stranded = a .tally .stranded })) (c .before .before .before .before .before .before .before .before .before .before .before .before .before .before .before .before .wide .result) (c .before .before .before .before .before .before .before .before .before .before .before .before .before .before .before .before .before .before .before .before .before .before .other .result) (omega (arith, c .before .before .before .before .before .before .before .before .before .before .before .before .before .before .before .before .before .before .before .before .before .before .other .ensures .0, opp-below (a .x) (a .links) (c .before .before .before .before .before .before .before .before .before .before .before .before .before .before .before .before .before .before .before .before .before .before .before .before .before .before .before .before .if1 .left))) (sym (c .before .before .before .before .before .before .before .before .before .before .before .before .before .before .before .before .wide .ensures ∙ sym (used-in (2 * a .links) 0 (now (a .node)) (c .before .before .before .before .before .before .before .before .before .before .before .before .before .before .before .before .before .before .before .before .before .before .other .result) (omega (arith, c .before .before .before .before .before .before .before .before .before .before .before .before .before .before .before .before .before .before .before .before .before .before .other .ensures .0, opp-below (a .x) (a .links) (c .before .before .before .before .before .before .before .before .before .before .before .before .before .before .before .before .before .before .before .before .before .before .before .before .before .before .before .before .if1 .left))))))
+          (used-in (a .links) false (now (a .live)) (c .before .before .before .before .before .before .before .before .before .before .before .before .before .before .before .before .before .before .before .before .before .before .other .result / 2) (omega (arith, c .before .before .before .before .before .before .before .before .before .before .before .before .before .before .before .before .before .before .before .before .before .before .other .ensures .0, opp-below (a .x) (a .links) (c .before .before .before .before .before .before .before .before .before .before .before .before .before .before .before .before .before .before .before .before .before .before .before .before .before .before .before .before .if1 .left))) ∙ ap (λ l. getD (now (a .live)) l false) (ap (λ z. z / 2) (c .before .before .before .before .before .before .before .before .before .before .before .before .before .before .before .before .before .before .before .before .before .before .other .ensures .0) ∙ link-opp (a .x)) ∙ not-false _ (c .before .before .before .before .before .before .before .before .before .before .before .before .before .before .before .before .before .before .before .before .before .before .before .before .before .before .if2 .left)),
+      record { long = record { out-long = ap length (c .before .before .before .before .before .before .before .hear .ensures .0) ∙ length-set (now (a .out)) (c .before .before .before .before .before .before .before .before .before .before .before .before .before .before .before .before .before .before .before .before .before .before .other .result) false ∙ c .before .before .before .before .before .before .before .before .before .before .before .before .before .before .before .before .before .before .before .before .before .before .before .before .before .before .before .before .before .pre .2 .long .out-long; local-long = c .before .before .before .before .before .before .before .before .before .before .before .before .before .before .before .before .before .before .before .before .before .before .before .before .before .before .before .before .before .pre .2 .long .local-long; mark-long = c .before .before .before .before .before .before .before .before .before .before .before .before .before .before .before .before .before .before .before .before .before .before .before .before .before .before .before .before .before .pre .2 .long .mark-long }; turns-long = c .before .before .before .before .before .before .before .before .before .before .before .before .before .before .before .before .before .before .before .before .before .before .before .before .before .before .before .before .before .pre .2 .turns-long; room = slots-kept (c .before .before .before .before .before .before .before .before .before .before .before .before .before .before .before .before .before .before .before .before .before .before .before .before .before .before .before .before .before .pre .2 .room) (c .before .before .before .before .before .before .before .before .before .before .before .take-out .ensures) },
+      c .before .before .before .before .before .before .before .before .before .before .before .before .before .before .before .before .before .before .before .before .before .before .before .before .before .before .before .before .before .pre .3,
       s .marks,
       record { events = fair .events; admitted = fair .admitted; delivered = fair .delivered; lost = fair .lost; stranded = fair .stranded },
     )
@@ -152,14 +151,14 @@ land-requires c κs =
 returns-5 : tie.Need-returns-5
 unfolding deliverOn
 returns-5 c =
-    let a = c .before .before .before .before .before .before .before .before .before .before .before .before .before .before .before .before .before .before .before .before .before .before .before .before .before .before .before .args in
-    let s = sound-if (now (a .node)) (now (a .live)) (now (a .out)) (now (a .local)) (now (a .remote)) (now (a .mark)) (now (a .turns)) (now (a .number)) (now (a .lane)) (now (a .bit)) (a .nodes) (a .destination) (a .links) (a .tally) (c .before .before .before .before .before .before .before .before .before .before .before .before .before .before .before .before .before .before .before .before .before .before .before .before .before .before .before .pre .0) in (
-      c .land .ensures .0 (set (now (a .remote)) (c .before .before .before .before .before .before .before .before .before .before .before .before .before .before .before .before .before .before .before .before .other .result) (not (getD (now (a .remote)) (c .before .before .before .before .before .before .before .before .before .before .before .before .before .before .before .before .before .before .before .before .other .result) false)))
-          ∙ ap (λ (s : State). landed s (c .before .before .before .before .before .before .before .before .before .before .before .before .before .before .wide .result) (getD (now (a .number)) (c .before .before .before .before .before .before .before .before .before .before .before .before .before .before .before .before .before .before .before .before .before .before .oldest .result) 0)) (news-is (netOf (a .nodes) (a .destination) (a .links) (now (a .node))) (now (a .live)) (now (a .out)) (now (a .local)) (now (a .remote)) (now (a .mark)) (now (a .turns)) (packets (c .before .before .before .before .before .before .before .before .before .take-out .last .0) (c .before .before .before .before .before .before .before .before .before .take-out .last .1 .0) (c .before .before .before .before .before .before .before .before .before .take-out .last .1 .1 .0) (a .tally .flying - 1)) (countsOf (a .tally)) (c .before .before .before .before .before .before .before .before .before .before .before .before .before .before .before .before .before .before .before .before .other .result) (getD (now (a .remote)) (c .before .before .before .before .before .before .before .before .before .before .before .before .before .before .before .before .before .before .before .before .other .result) false) (omega (arith, c .before .before .before .before .before .before .before .before .before .before .before .before .before .before .before .before .before .before .before .before .other .ensures .0, opp-below (a .x) (a .links) (c .before .before .before .before .before .before .before .before .before .before .before .before .before .before .before .before .before .before .before .before .before .before .before .before .before .before .if1 .left))) (s .sizes .links-most) (c .before .before .before .before .before .before .before .before .before .before .before .before .before .before .before .before .before .before .before .before .before .before .before .before .before .before .before .pre .2 .long .out-long) (c .before .before .before .before .before .before .before .before .before .before .before .before .before .before .before .before .before .before .before .before .before .before .before .before .before .before .before .pre .4) refl (took-is (netOf (a .nodes) (a .destination) (a .links) (now (a .node))) (now (a .live)) (endsOf (a .links) (now (a .out)) (now (a .local)) (now (a .remote)) (now (a .mark))) (now (a .turns)) (packets (now (a .number)) (now (a .lane)) (now (a .bit)) (a .tally .flying)) (packets (c .before .before .before .before .before .before .before .before .before .take-out .last .0) (c .before .before .before .before .before .before .before .before .before .take-out .last .1 .0) (c .before .before .before .before .before .before .before .before .before .take-out .last .1 .1 .0) (a .tally .flying - 1)) (countsOf (a .tally)) (a .x) (rest-there (now (a .number)) (now (a .lane)) (now (a .bit)) (a .x) _ (a .tally .flying) (c .before .before .before .before .before .before .before .before .before .before .before .before .before .before .before .before .before .before .before .before .before .before .oldest .ensures) (c .before .before .before .before .before .before .before .before .before .before .before .before .before .before .before .before .before .before .before .before .before .if3 .left) (c .before .before .before .before .before .before .before .before .before .take-out .last .0) (c .before .before .before .before .before .before .before .before .before .take-out .last .1 .0) (c .before .before .before .before .before .before .before .before .before .take-out .last .1 .1 .0) (a .tally .flying - 1) (omega (arith, c .before .before .before .before .before .before .before .before .before .before .before .before .before .before .before .before .before .before .before .before .before .if3 .left)) (c .before .before .before .before .before .before .before .before .before .take-out .ensures))))
-          ∙ ap (λ u. landed (news (taken (stateAt (now (a .node)) (now (a .live)) (now (a .out)) (now (a .local)) (now (a .remote)) (now (a .mark)) (now (a .turns)) (now (a .number)) (now (a .lane)) (now (a .bit)) (a .nodes) (a .destination) (a .links) (a .tally)) (a .x)) (c .before .before .before .before .before .before .before .before .before .before .before .before .before .before .before .before .before .before .before .before .other .result)) u (getD (now (a .number)) (c .before .before .before .before .before .before .before .before .before .before .before .before .before .before .before .before .before .before .before .before .before .before .oldest .result) 0)) (c .before .before .before .before .before .before .before .before .before .before .before .before .before .before .wide .ensures ∙ sym (used-in (2 * a .links) 0 (now (a .node)) (c .before .before .before .before .before .before .before .before .before .before .before .before .before .before .before .before .before .before .before .before .other .result) (omega (arith, c .before .before .before .before .before .before .before .before .before .before .before .before .before .before .before .before .before .before .before .before .other .ensures .0, opp-below (a .x) (a .links) (c .before .before .before .before .before .before .before .before .before .before .before .before .before .before .before .before .before .before .before .before .before .before .before .before .before .before .if1 .left)))))
-          ∙ off-oldest (stateAt (now (a .node)) (now (a .live)) (now (a .out)) (now (a .local)) (now (a .remote)) (now (a .mark)) (now (a .turns)) (now (a .number)) (now (a .lane)) (now (a .bit)) (a .nodes) (a .destination) (a .links) (a .tally)) (a .x) _ (c .before .before .before .before .before .before .before .before .before .before .before .before .before .before .before .before .before .before .before .before .before .before .before .before .before .before .before .pre .0) (c .before .before .before .before .before .before .before .before .before .before .before .before .before .before .before .before .before .before .before .before .before .before .before .before .before .before .before .pre .1) (c .before .before .before .before .before .before .before .before .before .before .before .before .before .before .before .before .before .before .before .before .before .before .before .before .before .before .if1 .left) (used-in (a .links) false (now (a .live)) (a .x / 2) (omega (arith, c .before .before .before .before .before .before .before .before .before .before .before .before .before .before .before .before .before .before .before .before .before .before .before .before .before .before .if1 .left)) ∙ not-false _ (c .before .before .before .before .before .before .before .before .before .before .before .before .before .before .before .before .before .before .before .before .before .before .before .before .if2 .left)) (oldest-there (now (a .number)) (now (a .lane)) (now (a .bit)) (a .x) _ (a .tally .flying) (c .before .before .before .before .before .before .before .before .before .before .before .before .before .before .before .before .before .before .before .before .before .before .oldest .ensures) (c .before .before .before .before .before .before .before .before .before .before .before .before .before .before .before .before .before .before .before .before .before .if3 .left) (stateAt (now (a .node)) (now (a .live)) (now (a .out)) (now (a .local)) (now (a .remote)) (now (a .mark)) (now (a .turns)) (now (a .number)) (now (a .lane)) (now (a .bit)) (a .nodes) (a .destination) (a .links) (a .tally)) _ ∙ deal-news (stateAt (now (a .node)) (now (a .live)) (now (a .out)) (now (a .local)) (now (a .remote)) (now (a .mark)) (now (a .turns)) (now (a .number)) (now (a .lane)) (now (a .bit)) (a .nodes) (a .destination) (a .links) (a .tally)) (a .x) (packetAt (now (a .number)) (now (a .lane)) (now (a .bit)) (c .before .before .before .before .before .before .before .before .before .before .before .before .before .before .before .before .before .before .before .before .before .before .oldest .result)) (c .before .before .before .before .before .before .before .before .before .before .before .before .before .before .before .before .before .before .before .before .other .result) (c .before .before .before .before .before .before .before .before .before .before .before .before .before .before .before .before .before .before .before .before .other .ensures .0) (getD (now (a .out)) (c .before .before .before .before .before .before .before .before .before .before .before .before .before .before .before .before .before .before .before .before .other .result) false) ((getD (now (a .bit)) (c .before .before .before .before .before .before .before .before .before .before .before .before .before .before .before .before .before .before .before .before .before .before .oldest .result) false) && not (getD (now (a .remote)) (c .before .before .before .before .before .before .before .before .before .before .before .before .before .before .before .before .before .before .before .before .other .result) false) || not (getD (now (a .bit)) (c .before .before .before .before .before .before .before .before .before .before .before .before .before .before .before .before .before .before .before .before .before .before .oldest .result) false) && (getD (now (a .remote)) (c .before .before .before .before .before .before .before .before .before .before .before .before .before .before .before .before .before .before .before .before .other .result) false)) (used-in (2 * a .links) false (now (a .out)) (c .before .before .before .before .before .before .before .before .before .before .before .before .before .before .before .before .before .before .before .before .other .result) (omega (arith, c .before .before .before .before .before .before .before .before .before .before .before .before .before .before .before .before .before .before .before .before .other .ensures .0, opp-below (a .x) (a .links) (c .before .before .before .before .before .before .before .before .before .before .before .before .before .before .before .before .before .before .before .before .before .before .before .before .before .before .if1 .left)))) (ap (xor (getD (now (a .bit)) (c .before .before .before .before .before .before .before .before .before .before .before .before .before .before .before .before .before .before .before .before .before .before .oldest .result) false)) (used-in (2 * a .links) false (now (a .remote)) (c .before .before .before .before .before .before .before .before .before .before .before .before .before .before .before .before .before .before .before .before .other .result) (omega (arith, c .before .before .before .before .before .before .before .before .before .before .before .before .before .before .before .before .before .before .before .before .other .ensures .0, opp-below (a .x) (a .links) (c .before .before .before .before .before .before .before .before .before .before .before .before .before .before .before .before .before .before .before .before .before .before .before .before .before .before .if1 .left)))) ∙ sym (fresh-is (getD (now (a .bit)) (c .before .before .before .before .before .before .before .before .before .before .before .before .before .before .before .before .before .before .before .before .before .before .oldest .result) false) (getD (now (a .remote)) (c .before .before .before .before .before .before .before .before .before .before .before .before .before .before .before .before .before .before .before .before .other .result) false))) (c .before .before .before .before .before .before .before .before .before .before .before .before .before .before .before .before .if4 .left) (c .before .before .before .before .before .before .before .before .if5 .taken)),
+    let a = c .before .before .before .before .before .before .before .before .before .before .before .before .before .before .before .before .before .before .before .before .before .before .before .before .before .before .before .before .before .before .args in
+    let s = sound-if (now (a .node)) (now (a .live)) (now (a .out)) (now (a .local)) (now (a .remote)) (now (a .mark)) (now (a .turns)) (now (a .number)) (now (a .lane)) (now (a .bit)) (a .nodes) (a .destination) (a .links) (a .tally) (c .before .before .before .before .before .before .before .before .before .before .before .before .before .before .before .before .before .before .before .before .before .before .before .before .before .before .before .before .before .before .pre .0) in (
+      c .land .ensures .0 (c .before .before .before .before .before .before .before .before .hear .last .1 .0)
+          ∙ ap (λ (s : State). landed s (c .before .before .before .before .before .before .before .before .before .before .before .before .before .before .before .before .before .wide .result) (getD (now (a .number)) (c .before .before .before .before .before .before .before .before .before .before .before .before .before .before .before .before .before .before .before .before .before .before .before .before .before .oldest .result) 0)) (heard-is (netOf (a .nodes) (a .destination) (a .links) (now (a .node))) (now (a .live)) (now (a .out)) (now (a .local)) (now (a .remote)) (now (a .mark)) (now (a .turns)) (packets (c .before .before .before .before .before .before .before .before .before .before .before .before .take-out .last .0) (c .before .before .before .before .before .before .before .before .before .before .before .before .take-out .last .1 .0) (c .before .before .before .before .before .before .before .before .before .before .before .before .take-out .last .1 .1 .0) (a .tally .flying - 1)) (countsOf (a .tally)) (c .before .before .before .before .before .before .before .before .before .before .before .before .before .before .before .before .before .before .before .before .before .before .before .other .result) (getD (now (a .remote)) (c .before .before .before .before .before .before .before .before .before .before .before .before .before .before .before .before .before .before .before .before .before .before .before .other .result) false) (omega (arith, c .before .before .before .before .before .before .before .before .before .before .before .before .before .before .before .before .before .before .before .before .before .before .before .other .ensures .0, opp-below (a .x) (a .links) (c .before .before .before .before .before .before .before .before .before .before .before .before .before .before .before .before .before .before .before .before .before .before .before .before .before .before .before .before .before .if1 .left))) (s .sizes .links-most) (c .before .before .before .before .before .before .before .before .before .before .before .before .before .before .before .before .before .before .before .before .before .before .before .before .before .before .before .before .before .before .pre .2 .long .out-long) (c .before .before .before .before .before .before .before .before .before .before .before .before .before .before .before .before .before .before .before .before .before .before .before .before .before .before .before .before .before .before .pre .4) refl (c .before .before .before .before .before .before .before .before .hear .last .0) (c .before .before .before .before .before .before .before .before .hear .last .1 .0) (c .before .before .before .before .before .before .before .before .hear .ensures .0) (c .before .before .before .before .before .before .before .before .hear .ensures .1) (took-is (netOf (a .nodes) (a .destination) (a .links) (now (a .node))) (now (a .live)) (endsOf (a .links) (now (a .out)) (now (a .local)) (now (a .remote)) (now (a .mark))) (now (a .turns)) (packets (now (a .number)) (now (a .lane)) (now (a .bit)) (a .tally .flying)) (packets (c .before .before .before .before .before .before .before .before .before .before .before .before .take-out .last .0) (c .before .before .before .before .before .before .before .before .before .before .before .before .take-out .last .1 .0) (c .before .before .before .before .before .before .before .before .before .before .before .before .take-out .last .1 .1 .0) (a .tally .flying - 1)) (countsOf (a .tally)) (a .x) (rest-there (now (a .number)) (now (a .lane)) (now (a .bit)) (a .x) _ (a .tally .flying) (c .before .before .before .before .before .before .before .before .before .before .before .before .before .before .before .before .before .before .before .before .before .before .before .before .before .oldest .ensures) (c .before .before .before .before .before .before .before .before .before .before .before .before .before .before .before .before .before .before .before .before .before .before .before .before .if3 .left) (c .before .before .before .before .before .before .before .before .before .before .before .before .take-out .last .0) (c .before .before .before .before .before .before .before .before .before .before .before .before .take-out .last .1 .0) (c .before .before .before .before .before .before .before .before .before .before .before .before .take-out .last .1 .1 .0) (a .tally .flying - 1) (omega (arith, c .before .before .before .before .before .before .before .before .before .before .before .before .before .before .before .before .before .before .before .before .before .before .before .before .if3 .left)) (c .before .before .before .before .before .before .before .before .before .before .before .before .take-out .ensures))))
+          ∙ ap (λ u. landed (news (taken (stateAt (now (a .node)) (now (a .live)) (now (a .out)) (now (a .local)) (now (a .remote)) (now (a .mark)) (now (a .turns)) (now (a .number)) (now (a .lane)) (now (a .bit)) (a .nodes) (a .destination) (a .links) (a .tally)) (a .x)) (c .before .before .before .before .before .before .before .before .before .before .before .before .before .before .before .before .before .before .before .before .before .before .before .other .result)) u (getD (now (a .number)) (c .before .before .before .before .before .before .before .before .before .before .before .before .before .before .before .before .before .before .before .before .before .before .before .before .before .oldest .result) 0)) (c .before .before .before .before .before .before .before .before .before .before .before .before .before .before .before .before .before .wide .ensures ∙ sym (used-in (2 * a .links) 0 (now (a .node)) (c .before .before .before .before .before .before .before .before .before .before .before .before .before .before .before .before .before .before .before .before .before .before .before .other .result) (omega (arith, c .before .before .before .before .before .before .before .before .before .before .before .before .before .before .before .before .before .before .before .before .before .before .before .other .ensures .0, opp-below (a .x) (a .links) (c .before .before .before .before .before .before .before .before .before .before .before .before .before .before .before .before .before .before .before .before .before .before .before .before .before .before .before .before .before .if1 .left)))))
+          ∙ off-oldest (stateAt (now (a .node)) (now (a .live)) (now (a .out)) (now (a .local)) (now (a .remote)) (now (a .mark)) (now (a .turns)) (now (a .number)) (now (a .lane)) (now (a .bit)) (a .nodes) (a .destination) (a .links) (a .tally)) (a .x) _ (c .before .before .before .before .before .before .before .before .before .before .before .before .before .before .before .before .before .before .before .before .before .before .before .before .before .before .before .before .before .before .pre .0) (c .before .before .before .before .before .before .before .before .before .before .before .before .before .before .before .before .before .before .before .before .before .before .before .before .before .before .before .before .before .before .pre .1) (c .before .before .before .before .before .before .before .before .before .before .before .before .before .before .before .before .before .before .before .before .before .before .before .before .before .before .before .before .before .if1 .left) (used-in (a .links) false (now (a .live)) (a .x / 2) (omega (arith, c .before .before .before .before .before .before .before .before .before .before .before .before .before .before .before .before .before .before .before .before .before .before .before .before .before .before .before .before .before .if1 .left)) ∙ not-false _ (c .before .before .before .before .before .before .before .before .before .before .before .before .before .before .before .before .before .before .before .before .before .before .before .before .before .before .before .if2 .left)) (oldest-there (now (a .number)) (now (a .lane)) (now (a .bit)) (a .x) _ (a .tally .flying) (c .before .before .before .before .before .before .before .before .before .before .before .before .before .before .before .before .before .before .before .before .before .before .before .before .before .oldest .ensures) (c .before .before .before .before .before .before .before .before .before .before .before .before .before .before .before .before .before .before .before .before .before .before .before .before .if3 .left) (stateAt (now (a .node)) (now (a .live)) (now (a .out)) (now (a .local)) (now (a .remote)) (now (a .mark)) (now (a .turns)) (now (a .number)) (now (a .lane)) (now (a .bit)) (a .nodes) (a .destination) (a .links) (a .tally)) _ ∙ deal-news (stateAt (now (a .node)) (now (a .live)) (now (a .out)) (now (a .local)) (now (a .remote)) (now (a .mark)) (now (a .turns)) (now (a .number)) (now (a .lane)) (now (a .bit)) (a .nodes) (a .destination) (a .links) (a .tally)) (a .x) (packetAt (now (a .number)) (now (a .lane)) (now (a .bit)) (c .before .before .before .before .before .before .before .before .before .before .before .before .before .before .before .before .before .before .before .before .before .before .before .before .before .oldest .result)) (c .before .before .before .before .before .before .before .before .before .before .before .before .before .before .before .before .before .before .before .before .before .before .before .other .result) (c .before .before .before .before .before .before .before .before .before .before .before .before .before .before .before .before .before .before .before .before .before .before .before .other .ensures .0) (getD (now (a .out)) (c .before .before .before .before .before .before .before .before .before .before .before .before .before .before .before .before .before .before .before .before .before .before .before .other .result) false) ((getD (now (a .bit)) (c .before .before .before .before .before .before .before .before .before .before .before .before .before .before .before .before .before .before .before .before .before .before .before .before .before .oldest .result) false) && not (getD (now (a .remote)) (c .before .before .before .before .before .before .before .before .before .before .before .before .before .before .before .before .before .before .before .before .before .before .before .other .result) false) || not (getD (now (a .bit)) (c .before .before .before .before .before .before .before .before .before .before .before .before .before .before .before .before .before .before .before .before .before .before .before .before .before .oldest .result) false) && (getD (now (a .remote)) (c .before .before .before .before .before .before .before .before .before .before .before .before .before .before .before .before .before .before .before .before .before .before .before .other .result) false)) (used-in (2 * a .links) false (now (a .out)) (c .before .before .before .before .before .before .before .before .before .before .before .before .before .before .before .before .before .before .before .before .before .before .before .other .result) (omega (arith, c .before .before .before .before .before .before .before .before .before .before .before .before .before .before .before .before .before .before .before .before .before .before .before .other .ensures .0, opp-below (a .x) (a .links) (c .before .before .before .before .before .before .before .before .before .before .before .before .before .before .before .before .before .before .before .before .before .before .before .before .before .before .before .before .before .if1 .left)))) (ap (xor (getD (now (a .bit)) (c .before .before .before .before .before .before .before .before .before .before .before .before .before .before .before .before .before .before .before .before .before .before .before .before .before .oldest .result) false)) (used-in (2 * a .links) false (now (a .remote)) (c .before .before .before .before .before .before .before .before .before .before .before .before .before .before .before .before .before .before .before .before .before .before .before .other .result) (omega (arith, c .before .before .before .before .before .before .before .before .before .before .before .before .before .before .before .before .before .before .before .before .before .before .before .other .ensures .0, opp-below (a .x) (a .links) (c .before .before .before .before .before .before .before .before .before .before .before .before .before .before .before .before .before .before .before .before .before .before .before .before .before .before .before .before .before .if1 .left)))) ∙ sym (fresh-is (getD (now (a .bit)) (c .before .before .before .before .before .before .before .before .before .before .before .before .before .before .before .before .before .before .before .before .before .before .before .before .before .oldest .result) false) (getD (now (a .remote)) (c .before .before .before .before .before .before .before .before .before .before .before .before .before .before .before .before .before .before .before .before .before .before .before .other .result) false))) (c .before .before .before .before .before .before .before .before .before .before .before .before .before .before .before .before .before .before .before .if4 .left) (c .before .before .before .before .before .before .before .before .before .before .before .if5 .taken)),
       c .land .ensures .1,
-      length-set (now (a .remote)) (c .before .before .before .before .before .before .before .before .before .before .before .before .before .before .before .before .before .before .before .before .other .result) (not (getD (now (a .remote)) (c .before .before .before .before .before .before .before .before .before .before .before .before .before .before .before .before .before .before .before .before .other .result) false)) ∙ c .before .before .before .before .before .before .before .before .before .before .before .before .before .before .before .before .before .before .before .before .before .before .before .before .before .before .before .pre .4,
+      ap length (c .before .before .before .before .before .before .before .before .hear .ensures .1) ∙ length-set (now (a .remote)) (c .before .before .before .before .before .before .before .before .before .before .before .before .before .before .before .before .before .before .before .before .before .before .before .other .result) (not (getD (now (a .remote)) (c .before .before .before .before .before .before .before .before .before .before .before .before .before .before .before .before .before .before .before .before .before .before .before .other .result) false)) ∙ c .before .before .before .before .before .before .before .before .before .before .before .before .before .before .before .before .before .before .before .before .before .before .before .before .before .before .before .before .before .before .pre .4,
     )
 
 element-copy-out-if6 : tie.Need-element-copy-out-if6
@@ -243,8 +242,7 @@ deliver-step-spec =
     element-copy-out-n
     sub-last
     take-out-requires
-    element-write-out
-    element-write-remote
+    hear-requires
     land-requires
     returns-5
     element-copy-out-if6
