@@ -1,0 +1,23 @@
+// The calls of docs/CALLS.md, made from one seed; each part starts its own generator.
+mod build;
+mod draw;
+mod drawn;
+mod limit;
+mod line;
+mod number;
+mod openings;
+mod records;
+mod rows;
+mod spoil;
+mod sum;
+
+const SEED: usize = 1;
+
+fn main() {
+    let mut opening = draw::start(SEED, 0);
+    openings::part(&mut opening);
+    let mut record = draw::start(SEED, 1);
+    records::part(&mut record);
+    let mut last = draw::start(SEED, 4);
+    limit::part(&mut last);
+}
