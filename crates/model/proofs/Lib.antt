@@ -18,4 +18,10 @@ pub mod Agreement
 pub mod Turns
 pub mod Places
 pub mod Cases
+pub mod Numbers
+pub mod Format
+pub mod ReadBack
+pub mod Had
+pub mod OneWriting
+pub mod Pieces
 pub mod Promises

@@ -94,7 +94,7 @@ module _ (nodes destination : ℕ) (list : List ℕ) where
       (first-none (λ k. not (joins nodes (nodeIn list (end k 0)) (nodeIn list (end k 1)))) (linksIn list) 0 l
       (omega (arith, ltb-false (firstBadLink nodes list) (linksIn list) e)) (omega arith) (omega arith))
 
-  named : badLink ≡ false → (l : ℕ) → l < linksIn list → (nodeIn list (end l 0) < nodes) × (nodeIn list (end l 1) < nodes)
+  pub named : badLink ≡ false → (l : ℕ) → l < linksIn list → (nodeIn list (end l 0) < nodes) × (nodeIn list (end l 1) < nodes)
   named e l h =
       let a = nodeIn list (end l 0) in
       let b = nodeIn list (end l 1) in

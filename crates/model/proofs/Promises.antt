@@ -1,5 +1,5 @@
 -- A term for each promise of specs/Promises.antt. Assumes nothing.
-use Rattle.model.specs.Promises.{CasesHold, OthersHold, FourExactly, FormedKept, RefusedSame, WayOut, NineExactly, FailKeeps, TurnsBounded, TurnsCounted, EndsAgree, TenNever, FourPlaces}
+use Rattle.model.specs.Promises.{CasesHold, OthersHold, FourExactly, FormedKept, RefusedSame, WayOut, NineExactly, FailKeeps, TurnsBounded, TurnsCounted, EndsAgree, TenNever, FourPlaces, ReadBack, OneWritingEach, ReadingEnds, PiecesMakeWhole}
 use Rattle.model.proofs.Cases as cases
 use Rattle.model.proofs.Opening as opening
 use Rattle.model.proofs.Single as single
@@ -7,6 +7,10 @@ use Rattle.model.proofs.Bound as bound
 use Rattle.model.proofs.Agreement as agreement
 use Rattle.model.proofs.Turns as turns
 use Rattle.model.proofs.Places as places
+use Rattle.model.proofs.ReadBack as read-back-of
+use Rattle.model.proofs.Had as had
+use Rattle.model.proofs.OneWriting as one-writing-of
+use Rattle.model.proofs.Pieces as pieces
 
 pub cases-hold : CasesHold
 cases-hold = cases.tables .0
@@ -46,3 +50,15 @@ ten-never = agreement.ten-never
 
 pub four-places : FourPlaces
 four-places = places.four-places
+
+pub read-back : ReadBack
+read-back = read-back-of.read-back
+
+pub one-writing : OneWritingEach
+one-writing = one-writing-of.one-writing
+
+pub reading-ends : ReadingEnds
+reading-ends = had.reading-ends
+
+pub pieces-make-whole : PiecesMakeWhole
+pieces-make-whole = pieces.pieces

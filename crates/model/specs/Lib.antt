@@ -20,6 +20,7 @@ pub mod Places
 pub mod Number
 pub mod File
 pub mod Writing
+pub mod Writable
 pub mod Text
 pub mod Rows
 pub mod Cases

@@ -1,12 +1,13 @@
 -- What is promised of the definitions, a named type each; proofs/Promises.antt has a term for each.
-use Prim.Native.Nat.{ℕ, _<_, _≤_}
+use Prim.Native.Nat.{ℕ, _+_, _<_, _≤_}
 use mathlib.Core.Path.{_≡_}
 use mathlib.Core.Logic.{_⊎_}
 use mathlib.Core.Bool.{true, false}
-use mathlib.Core.List.{List}
-use lib.ListN.{length}
+use mathlib.Core.List.{List, _++_}
+use mathlib.Core.Option.{some}
+use lib.ListN.{length, drop}
 use Rattle.model.specs.declared.Handled.the-variants as handled
-use Rattle.model.specs.Limits.{flightMost, eventsMost}
+use Rattle.model.specs.Limits.{flightMost, eventsMost, numberMost}
 use Rattle.model.specs.Answers as answers
 use Rattle.model.specs.Below.{all}
 use Rattle.model.specs.State.{end, opp, State, lanes, whole}
@@ -21,6 +22,10 @@ use Rattle.model.specs.Paths.{Joined}
 use Rattle.model.specs.Agreement.{Agree, Untold}
 use Rattle.model.specs.Turns.{turnEvents}
 use Rattle.model.specs.Places.{placed, inAll}
+use Rattle.model.specs.Number.{numberBytes, had, readNumber}
+use Rattle.model.specs.File.{Header, opening, readHeader, argument, readEvent, andMore, eventsFrom, readEvents, Drill, read}
+use Rattle.model.specs.Writing.{headerBytes, eventBytes, write}
+use Rattle.model.specs.Writable.{Bytes, Writable, writePieces}
 use Rattle.model.specs.Rows.{Hold}
 use Rattle.model.specs.Cases.{cases, others}
 
@@ -117,3 +122,44 @@ pub record FourPlaces : Type 0 where
   pub delivered : (s : State) (h : History s) → s .counts .delivered ≡ length (placed h .delivered)
   pub lost : (s : State) (h : History s) → s .counts .lost ≡ length (placed h .lost)
   pub stranded : (s : State) (h : History s) → s .counts .stranded ≡ length (placed h .stranded)
+
+-- ---- drill files
+-- Reading what was written gives it back: the number, the event, the header, at any position of a file in which they stand, with the
+-- position after them; and the whole drill.
+pub record ReadBack : Type 0 where
+  pub number : (before after : List ℕ) (n : ℕ) → n ≤ numberMost
+      → readNumber (before ++ (numberBytes n ++ after)) (length before) ≡ had n (length before + length (numberBytes n))
+  pub event : (before after : List ℕ) (e : Event) → argument e ≤ numberMost
+      → readEvent (before ++ (eventBytes e ++ after)) (length before) ≡ had (some e) (length before + length (eventBytes e))
+  pub header : (before after : List ℕ) (h : Header) → opening h .answer ≡ answers.done
+      → readHeader (before ++ (headerBytes h ++ after)) (length before) ≡ had h (length before + length (headerBytes h))
+  pub drill : (d : Drill) → Writable d → read (write d) ≡ had d (length (write d))
+
+-- "shortest form only": what is read is the one writing of what it gives. A file that is read whole is what its drill is written as, so two
+-- files that give the same drill are the same file.
+pub record OneWriting (file : List ℕ) : Type 0 where
+  pub number : (at n next : ℕ) → readNumber file at ≡ had n next
+      → (n ≤ numberMost) × (drop at file ≡ numberBytes n ++ drop next file)
+  pub event : (at : ℕ) (e : Event) (next : ℕ) → readEvent file at ≡ had (some e) next
+      → (argument e ≤ numberMost) × (drop at file ≡ eventBytes e ++ drop next file)
+  pub header : (at : ℕ) (h : Header) (next : ℕ) → readHeader file at ≡ had h next
+      → (opening h .answer ≡ answers.done) × (drop at file ≡ headerBytes h ++ drop next file)
+  pub drill : (d : Drill) (n : ℕ) → read file ≡ had d n → (write d ≡ file) × Writable d
+  pub same : (other : List ℕ) → Bytes other → (d : Drill) (n m : ℕ) → read file ≡ had d n → read other ≡ had d m → file ≡ other
+
+abbrev pub OneWritingEach : Type 0
+OneWritingEach = (file : List ℕ) → Bytes file → OneWriting file
+
+-- Reading always ends: what is had moves the position on and not past the end. More fuel gives the same events, which are those of reading
+-- one after the other.
+pub record ReadingEnds : Type 0 where
+  pub number : (file : List ℕ) (at n next : ℕ) → readNumber file at ≡ had n next → (at < next) × (next ≤ length file)
+  pub event : (file : List ℕ) (at : ℕ) (e : Event) (next : ℕ) → readEvent file at ≡ had (some e) next → (at < next) × (next ≤ length file)
+  pub header : (file : List ℕ) (at : ℕ) (h : Header) (next : ℕ) → readHeader file at ≡ had h next → (at < next) × (next ≤ length file)
+  pub more-fuel : (file : List ℕ) (at fuel : ℕ) → length file < fuel → eventsFrom fuel file at ≡ readEvents file at
+  pub one-by-one : (file : List ℕ) (at : ℕ) → readEvents file at ≡ andMore (readEvent file at) λ next. readEvents file next
+
+-- A header and events written one after the other, each into what is left of the part, are the whole writing; "those after them stay".
+abbrev pub PiecesMakeWhole : Type 0
+PiecesMakeWhole = (d : Drill) (part : List ℕ) → Writable d → length (write d) ≤ length part
+    → writePieces d part ≡ write d ++ drop (length (write d)) part
