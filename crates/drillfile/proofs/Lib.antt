@@ -1,4 +1,8 @@
 pub mod Masks
-pub mod Reading
+pub mod Joining
 pub mod Splitting
+pub mod KnownKinds
+pub mod EventRead
+pub mod Stores
+pub mod EventWritten
 pub mod OneOutcome

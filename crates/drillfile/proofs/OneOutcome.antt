@@ -1,19 +1,31 @@
 -- Two outcomes that a public function's contract allows are equal. `Reads.Post` is the contract as the source states it. Assumes nothing.
 use Prim.Native.Nat.{ℕ}
 use mathlib.Core.Path.{_≡_, refl, sym, ap, _∙_}
+use mathlib.Core.Bool.{Bool, true, false}
 use mathlib.Core.List.{List, [], _∷_}
 use mathlib.Core.Option.{Option, none, some}
+use lib.Dec.{eqb}
+use denote.Ref.{now}
 use contract.Lifetimes.{Lfts}
 use denote.Triple.Clauses.{AtExit}
 use borrow.Fn.Kinds.{PK, RK, Dens, resT, endedOf, Out}
+use Rattle.model.specs.Answers as answers
 use Rattle.model.specs.Number.{Read, had, refused}
-use Rattle.drillfile.specs.declared.Number.{Number}
-use Rattle.drillfile.specs.declared.Number.the-variants.{Value, Spoilt}
-use Rattle.drillfile.specs.declared.Groups.{Groups}
-use Rattle.drillfile.specs.declared.Groups.the-variants.{One, Two, Three, TooLarge}
+use Rattle.drillfile.specs.declared.answers.Number.{Number}
+use Rattle.drillfile.specs.declared.answers.Number.the-variants.{Value, Spoilt}
+use Rattle.drillfile.specs.declared.answers.Groups.{Groups}
+use Rattle.drillfile.specs.declared.answers.Groups.the-variants.{One, Two, Three, TooLarge}
+use Rattle.drillfile.specs.declared.answers.Got.{Got}
+use Rattle.drillfile.specs.declared.answers.Got.the-variants as got
+use Rattle.drillfile.specs.declared.answers.Written.{Written}
 use Rattle.drillfile.specs.Numbers.{numberOf, bytesOf}
+use Rattle.drillfile.specs.Outcomes.{Seen, seen, holding}
 use Rattle.drillfile.proofs.read_number.Kinds as read-number-kinds
 use Rattle.drillfile.proofs.read_number.Reads as read-number
+use Rattle.drillfile.proofs.read_event.Kinds as read-event-kinds
+use Rattle.drillfile.proofs.read_event.Reads as read-event
+use Rattle.drillfile.proofs.write_event.Kinds as write-event-kinds
+use Rattle.drillfile.proofs.write_event.Reads as write-event
 use Rattle.drillfile.proofs.split.Kinds as split-kinds
 use Rattle.drillfile.proofs.split.Reads as split
 
@@ -39,6 +51,24 @@ groups-back (Two a b) = refl
 groups-back (Three a b c) = refl
 groups-back TooLarge = refl
 
+abbrev got-of : Seen → Got
+got-of s = by (s .event) (eqb (s .answer) answers.done)
+  where
+    by : Option (ℕ × ℕ) → Bool → Got
+    by (some e) b = got.Event (e .0) (e .1) (record { at = s .next })
+    by none true = got.End (record { at = s .next })
+    by none false = got.Spoilt (s .place) (record { at = s .next })
+
+got-back : (r : Got) → got-of (seen r) ≡ r
+got-back (got.Event k a n) = refl
+got-back (got.End n) = refl
+got-back (got.Spoilt p n) = refl
+
+-- an outcome of writing: what is given back, and what the part holds at exit
+written-back : {w w′ : Written} {part part′ : List ℕ} → holding w part ≡ holding w′ part′ → (w ≡ w′) × (part ≡ part′)
+written-back e =
+    (λ i. record { answer = e i .answer; place = e i .place; count = e i .count }, ap (λ o. o .part) e)
+
 abbrev pub OneAnswer : (n : ℕ) (ps : List (PK n)) (k : RK n) → Out n ps k → Type 0
 OneAnswer n ps k Post =
     (κs : Lfts n) (a : Dens κs ps) (r r′ : resT k κs .Denot) (x x′ : AtExit (endedOf n ps k) κs) → Post κs a r x → Post κs a r′ x′ → r ≡ r′
@@ -48,3 +78,11 @@ read-number-one κs a r r′ x x′ p q = sym (number-back r) ∙ ap number-of (
 
 pub split-one : OneAnswer 0 split-kinds.ps split-kinds.r split.Post
 split-one κs a r r′ x x′ p q = sym (groups-back r) ∙ ap groups-of (p ∙ sym q) ∙ groups-back r′
+
+pub read-event-one : OneAnswer 1 read-event-kinds.ps read-event-kinds.r read-event.Post
+read-event-one κs a r r′ x x′ p q = sym (got-back r) ∙ ap got-of (p ∙ sym q) ∙ got-back r′
+
+pub write-event-one : (κs : Lfts 1) (a : Dens κs write-event-kinds.ps) (r r′ : resT write-event-kinds.r κs .Denot)
+    (x x′ : AtExit (endedOf 1 write-event-kinds.ps write-event-kinds.r) κs)
+    → write-event.Post κs a r x → write-event.Post κs a r′ x′ → (r ≡ r′) × (now (x .0) ≡ now (x′ .0))
+write-event-one κs a r r′ x x′ p q = written-back (p ∙ sym q)

@@ -7,10 +7,10 @@ use lib.Dec.{leb}
 use Rattle.model.specs.Limits.{numberMost}
 use Rattle.model.specs.Answers as answers
 use Rattle.model.specs.Number.{numberBytes, Read, had, refused}
-use Rattle.drillfile.specs.declared.Number.{Number}
-use Rattle.drillfile.specs.declared.Number.the-variants.{Value, Spoilt}
-use Rattle.drillfile.specs.declared.Groups.{Groups}
-use Rattle.drillfile.specs.declared.Groups.the-variants.{One, Two, Three, TooLarge}
+use Rattle.drillfile.specs.declared.answers.Number.{Number}
+use Rattle.drillfile.specs.declared.answers.Number.the-variants.{Value, Spoilt}
+use Rattle.drillfile.specs.declared.answers.Groups.{Groups}
+use Rattle.drillfile.specs.declared.answers.Groups.the-variants.{One, Two, Three, TooLarge}
 
 abbrev pub numberOf : Number → Read ℕ
 numberOf (Value v next) = had v next

@@ -1,32 +1,24 @@
-// Drill files: so far their numbers, read and written in groups of seven bits.
+// Drill files: read and written at a position of a slice that is lent.
+mod answers;
 mod bits;
+mod reading;
+mod writing;
 
+pub use answers::Cursor;
+pub use answers::Got;
+pub use answers::Groups;
+pub use answers::Number;
+pub use answers::Written;
 use bits::goes_on;
-use bits::join;
 use bits::last;
 use bits::low;
 use bits::more;
 use bits::rest;
 ghost use mathlib.Core.Path.{_≡_};
-ghost use Prim.Native.Nat.{_+_, _<_};
-ghost use lib.ListN.{length, drop};
-ghost use Rattle.model.specs.Limits.{group};
-ghost use Rattle.model.specs.Number.{placed, join as joinTo, numberIn, readNumber};
+ghost use Rattle.model.specs.Number.{readNumber};
+ghost use Rattle.model.specs.Writing.{writeEvent};
 ghost use Rattle.drillfile.specs.Numbers.{numberOf, bytesOf, writeNumber};
-
-// A number that was read, with the position after it; or the place of what is spoilt.
-pub enum Number {
-    Value(u32, usize),
-    Spoilt(usize),
-}
-
-// The bytes of a number; none for one over the largest.
-pub enum Groups {
-    One(u8),
-    Two(u8, u8),
-    Three(u8, u8, u8),
-    TooLarge,
-}
+ghost use Rattle.drillfile.specs.Outcomes.{seen, eventAt, holding};
 
 // The number at a position of a file.
 pub fn read_number(file: &[u8], at: usize) -> Number
@@ -37,47 +29,9 @@ pub fn read_number(file: &[u8], at: usize) -> Number
     }
     let b = file[at];
     if goes_on(b) {
-        return second_group(file, at, low(b));
+        return reading::second_group(file, at, low(b));
     }
     Number::Value(low(b), at + 1)
-}
-
-// The number at a position whose first group goes on.
-fn second_group(file: &[u8], at: usize, first: u32) -> Number
-    requires { ⌜ (at < length (now file)) × (first < group) ⌝ }
-    ensures { λ r. ⌜ numberOf r ≡ placed at (joinTo first (numberIn 2 (drop (at + 1) (now (file .entry))))) ⌝ }
-{
-    let place = at + 1;
-    if file.len() <= place {
-        return Number::Spoilt(at);
-    }
-    let b = file[place];
-    if goes_on(b) {
-        return third_group(file, at, first, low(b));
-    }
-    if b == 0 {
-        return Number::Spoilt(at);
-    }
-    Number::Value(join(low(b), first), at + 2)
-}
-
-// The number at a position whose first two groups go on.
-fn third_group(file: &[u8], at: usize, first: u32, second: u32) -> Number
-    requires { ⌜ (at + 1 < length (now file)) × (first < group) × (second < group) ⌝ }
-    ensures { λ r. ⌜ numberOf r ≡ placed at (joinTo first (joinTo second (numberIn 1 (drop (at + 2) (now (file .entry)))))) ⌝ }
-{
-    let place = at + 2;
-    if file.len() <= place {
-        return Number::Spoilt(at);
-    }
-    let c = file[place];
-    if goes_on(c) {
-        return Number::Spoilt(at);
-    }
-    if c == 0 {
-        return Number::Spoilt(at);
-    }
-    Number::Value(join(join(low(c), second), first), at + 3)
 }
 
 // The bytes of a number, in the shortest form.
@@ -96,4 +50,52 @@ pub fn split(value: u32) -> Groups
         return Groups::Two(more(value), last(high));
     }
     Groups::Three(more(value), more(high), last(top))
+}
+
+// The event at a position. A value that can't be had ends the reading at once with its place.
+pub fn read_event(file: &[u8], from: Cursor) -> Got
+    ensures { λ r. ⌜ seen r ≡ eventAt (now (file .entry)) (from .at) ⌝ }
+{
+    let at = from.at;
+    if file.len() <= at {
+        return Got::End(Cursor { at: file.len() });
+    }
+    let Number::Value(kind, middle) = read_number(file, at) else {
+        return Got::Spoilt(at, from);
+    };
+    if !reading::is_kind(kind) {
+        return Got::Spoilt(at, from);
+    }
+    let Number::Value(argument, next) = read_number(file, middle) else {
+        return Got::Spoilt(middle, from);
+    };
+    Got::Event {
+        kind,
+        argument,
+        next: Cursor { at: next },
+    }
+}
+
+// An event at the front of a part: 6, then 12. A refusal changes nothing.
+pub fn write_event(out: &mut [u8], kind: u32, argument: u32) -> Written
+    ensures { λ r. ⌜ holding r (now (out .exit)) ≡ writeEvent kind argument (now (out .entry)) ⌝ }
+{
+    if !reading::is_kind(kind) {
+        return answers::refused(answers::NO_SUCH, 0);
+    }
+    if model::NUMBER < argument {
+        return answers::refused(answers::NO_SUCH, 0);
+    }
+    let first = writing::width(kind);
+    let count = first + writing::width(argument);
+    if out.len() < count {
+        return answers::refused(answers::TOO_SHORT, 0);
+    }
+    writing::put_number(out, 0, kind);
+    writing::put_number(out, first, argument);
+    Written {
+        answer: answers::DONE,
+        place: 0,
+        count,
+    }
 }

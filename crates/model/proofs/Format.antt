@@ -30,7 +30,7 @@ Small (n ∷ ns) = (n ≤ numberMost) × Small ns
 abbrev numbers-at : List ℕ → ℕ → List ℕ → ℕ → Type 0
 numbers-at file at ns next = drop at file ≡ numbersBytes ns ++ drop next file
 
-numbers-cons : (n : ℕ) (ns : List ℕ) → numbersBytes (n ∷ ns) ≡ numberBytes n ++ numbersBytes ns
+pub numbers-cons : (n : ℕ) (ns : List ℕ) → numbersBytes (n ∷ ns) ≡ numberBytes n ++ numbersBytes ns
 unfolding numbersBytes
 numbers-cons n ns = refl
 

@@ -43,6 +43,17 @@ some-byte k n = elim (decLt n group) [
 pub number-long : (n : ℕ) → 0 < length (numberBytes n)
 number-long n = some-byte 2 n
 
+few-bytes : (k n : ℕ) → length (groups k n) ≤ k
+unfolding groups
+few-bytes zero n = omega arith
+few-bytes (suc k) n = elim (decLt n group) [
+  | yes h ↦ rw (lt-ltb n group h) (omega arith)
+  | no h ↦ rw (le-ltb n group (omega arith)) (omega (arith, few-bytes k (n / group)))
+]
+
+pub number-short : (n : ℕ) → length (numberBytes n) ≤ groupsMost
+number-short n = few-bytes groupsMost n
+
 -- ---- written, then read
 join-some : (low high width : ℕ) → 0 < high
     → join low (some (record { value = high; width = width })) ≡ some (record { value = high * group + low; width = suc width })

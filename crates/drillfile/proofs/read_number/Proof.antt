@@ -2,7 +2,7 @@
 use denote.Ref.{now}
 use borrow.Author.Needs.{needs}
 use mathlib.Core.Path.{sym, _∙_}
-use Rattle.drillfile.proofs.Reading.{read-past, read-one, read-more}
+use Rattle.drillfile.proofs.Joining.{read-past, read-one, read-more}
 use Rattle.drillfile.proofs.read_number.Statement.{statement}
 use Rattle.drillfile.proofs.read_number.Tie as tie
 

@@ -1,11 +1,11 @@
 -- The third group ends the number, and is not 0. Assumes nothing.
 use native.Mathlib.Omega.{arith}
-use mathlib.Core.Path.{sym, ap, _∙_}
+use mathlib.Core.Path.{sym, _∙_}
 use denote.Ref.{now}
 use borrow.Author.Needs.{needs}
-use Rattle.drillfile.proofs.Reading.{group-cut, group-zero, group-pos, group-last, group-fourth, under-none, under-some, spoilt-by, had-by}
-use Rattle.drillfile.proofs.third_group.Statement.{statement}
-use Rattle.drillfile.proofs.third_group.Tie as tie
+use Rattle.drillfile.proofs.Joining.{group-cut, group-zero, group-pos, group-last, group-fourth, under-none, under-some, spoilt-by, had-by}
+use Rattle.drillfile.proofs.reading.third_group.Statement.{statement}
+use Rattle.drillfile.proofs.reading.third_group.Tie as tie
 
 add-place : tie.Need-add-place
 add-place c = search needs

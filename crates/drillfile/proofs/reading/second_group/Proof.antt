@@ -4,10 +4,10 @@ use native.Mathlib.Omega.{arith}
 use mathlib.Core.Path.{sym, ap, _∙_}
 use denote.Ref.{now}
 use borrow.Author.Needs.{needs}
-use Rattle.drillfile.proofs.Reading.{cut-short, group-cut, group-zero, group-last, group-more, spoilt-by, had-by}
+use Rattle.drillfile.proofs.Joining.{group-cut, group-zero, group-last, group-more, spoilt-by, had-by}
 use Rattle.model.specs.Number.{placed}
-use Rattle.drillfile.proofs.second_group.Statement.{statement}
-use Rattle.drillfile.proofs.second_group.Tie as tie
+use Rattle.drillfile.proofs.reading.second_group.Statement.{statement}
+use Rattle.drillfile.proofs.reading.second_group.Tie as tie
 
 add-place : tie.Need-add-place
 add-place c = search needs

@@ -1,0 +1,67 @@
+-- By what can be had: the kind, that it is known, the argument. Assumes nothing.
+use mathlib.Core.Path.{sym, _∙_}
+use denote.Ref.{now}
+use borrow.Author.Tests.{not-true, not-false}
+use Rattle.drillfile.proofs.EventRead.{no-more, no-kind, unknown-kind, no-argument, whole}
+use borrow.Author.Needs.{needs}
+use Rattle.drillfile.proofs.read_event.Statement.{statement}
+use Rattle.drillfile.proofs.read_event.Tie as tie
+
+returns : tie.Need-returns
+returns c = no-more (now (c .before .before .args .file)) (c .before .before .args .from) (c .if1 .taken)
+
+read-number-requires : tie.Need-read-number-requires
+read-number-requires c κs = search needs
+
+enum-known-kind : tie.Need-enum-known-kind
+enum-known-kind c = search needs
+
+enum-told : tie.Need-enum-told
+enum-told c = search needs
+
+returns-2 : tie.Need-returns-2
+returns-2 c = no-kind (now (c .before .before .before .before .before .args .file)) (c .before .before .before .before .before .args .from) (c .before .before .before .if1 .left) (c .before .before .read-number .ensures) _ (c .enum-told .given .1)
+
+is-kind-requires : tie.Need-is-kind-requires
+is-kind-requires c κs = search needs
+
+returns-3 : tie.Need-returns-3
+returns-3 c =
+    let known = sym (c .before .is-kind .ensures) ∙ not-true _ (c .if2 .taken) in
+    unknown-kind (now (c .before .before .before .before .before .before .before .before .args .file)) (c .before .before .before .before .before .before .before .before .args .from) (c .before .before .before .before .before .before .if1 .left) (c .before .before .before .before .before .read-number .ensures) _ _ (c .before .before .before .kind .given .1) known
+
+read-number-requires-2 : tie.Need-read-number-requires-2
+read-number-requires-2 c κs = search needs
+
+enum-known-argument : tie.Need-enum-known-argument
+enum-known-argument c = search needs
+
+enum-told-2 : tie.Need-enum-told-2
+enum-told-2 c = search needs
+
+returns-4 : tie.Need-returns-4
+returns-4 c =
+    let known = sym (c .before .before .before .before .is-kind .ensures) ∙ not-false _ (c .before .before .before .if2 .left) in
+    no-argument (now (c .before .before .before .before .before .before .before .before .before .before .before .args .file)) (c .before .before .before .before .before .before .before .before .before .before .before .args .from) (c .before .before .before .before .before .before .before .before .before .if1 .left) (c .before .before .before .before .before .before .before .before .read-number .ensures) _ _ (c .before .before .before .before .before .before .kind .given .1) known (c .before .before .read-number2 .ensures) _ (c .enum-told2 .given .1)
+
+returns-5 : tie.Need-returns-5
+returns-5 c =
+    let known = sym (c .before .before .before .before .before .is-kind .ensures) ∙ not-false _ (c .before .before .before .before .if2 .left) in
+    whole (now (c .before .before .before .before .before .before .before .before .before .before .before .before .args .file)) (c .before .before .before .before .before .before .before .before .before .before .before .before .args .from) (c .before .before .before .before .before .before .before .before .before .before .if1 .left) (c .before .before .before .before .before .before .before .before .before .read-number .ensures) _ _ (c .before .before .before .before .before .before .before .kind .given .1) known (c .before .before .before .read-number2 .ensures) _ _ (c .before .argument .given .1)
+
+pub read-event-spec : {M : Type 1} → statement M
+read-event-spec =
+    tie.close
+    (tie.spec
+    returns
+    read-number-requires
+    enum-known-kind
+    enum-told
+    returns-2
+    is-kind-requires
+    returns-3
+    read-number-requires-2
+    enum-known-argument
+    enum-told-2
+    returns-4
+    returns-5)

@@ -1,0 +1,48 @@
+-- By how many groups the number has. Assumes nothing.
+use mathlib.Core.Path.{sym, ap}
+use lib.ListN.{length}
+use Rattle.drillfile.proofs.Stores.{is-one, is-two, is-three, not-large}
+use borrow.Author.Needs.{needs}
+use Rattle.drillfile.proofs.writing.width.Statement.{statement}
+use Rattle.drillfile.proofs.writing.width.Tie as tie
+
+split-requires : tie.Need-split-requires
+split-requires c κs = search needs
+
+enum-told : tie.Need-enum-told
+enum-told c = search needs
+
+enum-told-2 : tie.Need-enum-told-2
+enum-told-2 c = search needs
+
+enum-told-3 : tie.Need-enum-told-3
+enum-told-3 c = search needs
+
+enum-told-4 : tie.Need-enum-told-4
+enum-told-4 c = search needs
+
+returns : tie.Need-returns
+returns c = ap length (sym (is-one (c .before .before .before .args .value) (c .before .before .before .pre) _ (c .before .before .split .ensures) _ (c .enum-told .given .1)))
+
+returns-2 : tie.Need-returns-2
+returns-2 c = ap length (sym (is-two (c .before .before .before .args .value) (c .before .before .before .pre) _ (c .before .before .split .ensures) _ _ (c .enum-told2 .given .1)))
+
+returns-3 : tie.Need-returns-3
+returns-3 c = ap length (sym (is-three (c .before .before .before .args .value) (c .before .before .before .pre) _ (c .before .before .split .ensures) _ _ _ (c .enum-told3 .given .1)))
+
+returns-4 : tie.Need-returns-4
+returns-4 c = absurd (not-large (c .before .before .before .args .value) (c .before .before .before .pre) _ (c .before .before .split .ensures) (c .enum-told4 .given .1))
+
+pub width-spec : {M : Type 1} → statement M
+width-spec =
+    tie.close
+    (tie.spec
+    split-requires
+    enum-told
+    enum-told-2
+    enum-told-3
+    enum-told-4
+    returns
+    returns-2
+    returns-3
+    returns-4)
