@@ -1,11 +1,9 @@
 -- What writing an event gives in each case that the code tells apart. Assumes nothing.
 use Prim.Native.Nat.{ℕ, _+_, _≤_, _<_}
-use native.Mathlib.Nat.{zero-add}
-use native.Mathlib.Omega.{arith}
 use mathlib.Core.Path.{_≡_, _∙_}
 use mathlib.Core.Bool.{true, false}
 use mathlib.Core.List.{List, [], _∷_, _++_, append-nil}
-use lib.ListN.{length, length-append}
+use lib.ListN.{length}
 use lib.Seq.{sets}
 use borrow.Author.Tests.{le-leb, lt-leb}
 use Rattle.model.specs.Limits.{numberMost}
@@ -17,7 +15,7 @@ use Rattle.model.proofs.Format.{numbers-cons, numbers-nil, kind-made}
 use Rattle.drillfile.specs.declared.answers.Written.{Written}
 use Rattle.drillfile.specs.Outcomes.{known, refusal, holding}
 use Rattle.drillfile.proofs.KnownKinds.{known-makes, known-not}
-use Rattle.drillfile.proofs.Stores.{sets-append, no-room, room}
+use Rattle.drillfile.proofs.Stores.{two-no-room, two-room}
 
 module _ (k a : ℕ) where
   abbrev bytes : List ℕ
@@ -25,9 +23,6 @@ module _ (k a : ℕ) where
 
   bytes-are : numbersBytes (k ∷ a ∷ []) ≡ bytes
   bytes-are = rw (numbers-cons k (a ∷ []), numbers-cons a [], numbers-nil, append-nil)
-
-  long : length bytes ≡ length (numberBytes k) + length (numberBytes a)
-  long = length-append (numberBytes k) (numberBytes a)
 
   module _ (part : List ℕ) where
     pub unknown : {w : Written} → known (ofKind k) ≡ false → w ≡ refusal answers.noSuch 0 → holding w part ≡ writeEvent k a part
@@ -48,12 +43,8 @@ module _ (k a : ℕ) where
             rw (m .1, le-leb a numberMost h, own .0, own .1, bytes-are)
 
         pub too-short : {r : Written} → length part < v + w → r ≡ refusal answers.tooShort 0 → holding r part ≡ writeEvent k a part
-        too-short l f = no-room bytes part (omega (arith, long)) f ∙ stores
+        too-short l f = two-no-room (numberBytes k) (numberBytes a) part p q l f ∙ stores
 
         pub done : {one both : List ℕ} → v + w ≤ length part → one ≡ sets part 0 (numberBytes k) → both ≡ sets one v (numberBytes a)
             → holding (record { answer = answers.done; place = 0; count = v + w }) both ≡ writeEvent k a part
-        done {one} {both} l f g =
-            let at : 0 + length (numberBytes k) ≡ v = omega (arith, zero-add (length (numberBytes k))) in
-            let laid : both ≡ sets part 0 bytes =
-            g ∙ rw (f, ← at) (sets-append (numberBytes k) (numberBytes a) part 0) in
-            room bytes part (omega (arith, long)) (omega (arith, long)) laid ∙ stores
+        done l f g = two-room (numberBytes k) (numberBytes a) part p q l f g ∙ stores

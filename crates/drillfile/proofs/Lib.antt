@@ -5,4 +5,8 @@ pub mod KnownKinds
 pub mod EventRead
 pub mod Stores
 pub mod EventWritten
+pub mod Runs
+pub mod NodeList
+pub mod HeaderRead
+pub mod HeaderWritten
 pub mod OneOutcome

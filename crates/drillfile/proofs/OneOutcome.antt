@@ -19,13 +19,19 @@ use Rattle.drillfile.specs.declared.answers.Got.{Got}
 use Rattle.drillfile.specs.declared.answers.Got.the-variants as got
 use Rattle.drillfile.specs.declared.answers.Written.{Written}
 use Rattle.drillfile.specs.Numbers.{numberOf, bytesOf}
+use Rattle.drillfile.specs.declared.answers.Headed.{Headed}
 use Rattle.drillfile.specs.Outcomes.{Seen, seen, holding}
+use Rattle.drillfile.specs.Headers.{seenHeader}
 use Rattle.drillfile.proofs.read_number.Kinds as read-number-kinds
 use Rattle.drillfile.proofs.read_number.Reads as read-number
 use Rattle.drillfile.proofs.read_event.Kinds as read-event-kinds
 use Rattle.drillfile.proofs.read_event.Reads as read-event
 use Rattle.drillfile.proofs.write_event.Kinds as write-event-kinds
 use Rattle.drillfile.proofs.write_event.Reads as write-event
+use Rattle.drillfile.proofs.read_header.Kinds as read-header-kinds
+use Rattle.drillfile.proofs.read_header.Reads as read-header
+use Rattle.drillfile.proofs.write_header.Kinds as write-header-kinds
+use Rattle.drillfile.proofs.write_header.Reads as write-header
 use Rattle.drillfile.proofs.split.Kinds as split-kinds
 use Rattle.drillfile.proofs.split.Reads as split
 
@@ -86,3 +92,27 @@ pub write-event-one : (κs : Lfts 1) (a : Dens κs write-event-kinds.ps) (r r′
     (x x′ : AtExit (endedOf 1 write-event-kinds.ps write-event-kinds.r) κs)
     → write-event.Post κs a r x → write-event.Post κs a r′ x′ → (r ≡ r′) × (now (x .0) ≡ now (x′ .0))
 write-event-one κs a r r′ x x′ p q = written-back (p ∙ sym q)
+
+-- What a reader sees of a header is the same; and a refusal, to its last entry.
+abbrev pub Same : Headed → Headed → Type 0
+Same r r′ = (seenHeader r ≡ seenHeader r′) × ((r .answer ≡ answers.done → ⊥) → r ≡ r′)
+
+pub read-header-one : (κs : Lfts 1) (a : Dens κs read-header-kinds.ps) (r r′ : Headed)
+    (x x′ : AtExit (endedOf 1 read-header-kinds.ps read-header-kinds.r) κs)
+    → read-header.Post κs a r x → read-header.Post κs a r′ x′ → Same r r′
+read-header-one κs a r r′ x x′ p q =
+    let same = p .outcome ∙ sym (q .outcome) in
+    let answer = ap (λ o. o .answer) same in (
+      same,
+      λ n i. record {
+        network = (p .lone n ∙ sym (q .lone (λ z. n (answer ∙ z)))) i;
+        answer = answer i;
+        place = same i .place;
+        next = record { at = same i .next };
+      },
+    )
+
+pub write-header-one : (κs : Lfts 2) (a : Dens κs write-header-kinds.ps) (r r′ : resT write-header-kinds.r κs .Denot)
+    (x x′ : AtExit (endedOf 2 write-header-kinds.ps write-header-kinds.r) κs)
+    → write-header.Post κs a r x → write-header.Post κs a r′ x′ → (r ≡ r′) × (now (x .0) ≡ now (x′ .0))
+write-header-one κs a r r′ x x′ p q = written-back (p ∙ sym q)

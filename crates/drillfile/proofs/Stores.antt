@@ -6,7 +6,7 @@ use native.Mathlib.Omega.{arith}
 use mathlib.Core.Path.{_≡_, refl, sym, ap, _∙_}
 use mathlib.Core.List.{List, [], _∷_, _++_}
 use mathlib.Core.Option.{some}
-use lib.ListN.{length, drop, set}
+use lib.ListN.{length, drop, set, length-append}
 use lib.Seq.{sets, sets-eq}
 use borrow.Author.Tests.{le-leb, lt-ltb}
 use Rattle.model.specs.Limits.{numberMost}
@@ -75,3 +75,17 @@ no-room bytes part h e = rw (e, lt-ltb (length part) (length bytes) h)
 pub room : (bytes part : List ℕ) {count : ℕ} {out : List ℕ} → length bytes ≤ length part → count ≡ length bytes → out ≡ sets part 0 bytes
     → holding (record { answer = answers.done; place = 0; count = count }) out ≡ store bytes part
 room bytes part h c o = rw (c, o, sets-front bytes part h, stored bytes part h)
+
+-- two runs, one behind the other
+module _ (x y part : List ℕ) {v w : ℕ} (p : v ≡ length x) (q : w ≡ length y) where
+  long : length (x ++ y) ≡ length x + length y
+  long = length-append x y
+
+  pub two-no-room : {r : Written} → length part < v + w → r ≡ refusal answers.tooShort 0 → holding r part ≡ store (x ++ y) part
+  two-no-room h e = no-room (x ++ y) part (omega (arith, long)) e
+
+  pub two-room : {one both : List ℕ} → v + w ≤ length part → one ≡ sets part 0 x → both ≡ sets one v y
+      → holding (record { answer = answers.done; place = 0; count = v + w }) both ≡ store (x ++ y) part
+  two-room h f g =
+      let at : 0 + length x ≡ v = omega (arith, zero-add (length x)) in
+      room (x ++ y) part (omega (arith, long)) (omega (arith, long)) (g ∙ rw (f, ← at) (sets-append x y part 0))

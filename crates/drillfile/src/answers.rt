@@ -1,4 +1,5 @@
 // What the calls of this crate give back. specs/Numbers and specs/Outcomes say what each case stands for.
+use network::Network;
 ghost use mathlib.Core.Path.{_≡_};
 ghost use Rattle.drillfile.specs.Outcomes.{refusal};
 
@@ -39,10 +40,22 @@ pub struct Written {
     pub count: usize,
 }
 
+// A header that was read: the opened record, the answer number, its place, and the position after.
+pub struct Headed {
+    pub network: Network,
+    pub answer: u32,
+    pub place: usize,
+    pub next: Cursor,
+}
+
 // The answer numbers of reading and writing.
 pub(crate) const DONE: u32 = 0;
 
+pub(crate) const BAD_SIZES: u32 = 2;
+
 pub(crate) const NO_SUCH: u32 = 6;
+
+pub(crate) const SPOILT: u32 = 11;
 
 pub(crate) const TOO_SHORT: u32 = 12;
 
