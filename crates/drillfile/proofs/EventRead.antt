@@ -28,7 +28,8 @@ place-is file at place h e =
     e ∙ ap (λ (n : ℕ). refused answers.spoilt n) same
 
 -- what the code's number says of the file's
-pub as-had : (file : List ℕ) (at : ℕ) {r : Number} (v next : ℕ) → numberOf r ≡ readNumber file at → r ≡ Value v next → readNumber file at ≡ had v next
+pub as-had : (file : List ℕ) (at : ℕ) {r : Number} (v next : ℕ) → numberOf r ≡ readNumber file at → r ≡ Value v next
+    → readNumber file at ≡ had v next
 as-had file at v next e q = sym e ∙ ap numberOf q
 
 pub as-spoilt : (file : List ℕ) (at : ℕ) {r : Number} (place : ℕ) → at ≤ length file → numberOf r ≡ readNumber file at → r ≡ Spoilt place

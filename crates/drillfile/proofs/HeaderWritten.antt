@@ -80,6 +80,7 @@ module _ (nodes destination : ℕ) (list : List ℕ) where
             → holding r part ≡ writeHeader (headerOf nodes destination list) part
         too-short l e = two-no-room (numbersBytes sizes) (numbersBytes list) part first second l e ∙ stores
 
-        pub all-written : {one both : List ℕ} → v + w ≤ length part → one ≡ sets part 0 (numbersBytes sizes) → both ≡ sets one v (numbersBytes list)
+        pub all-written : {one both : List ℕ} → v + w ≤ length part → one ≡ sets part 0 (numbersBytes sizes)
+            → both ≡ sets one v (numbersBytes list)
             → holding (record { answer = answers.done; place = 0; count = v + w }) both ≡ writeHeader (headerOf nodes destination list) part
         all-written l f g = two-room (numbersBytes sizes) (numbersBytes list) part first second l f g ∙ stores

@@ -9,4 +9,5 @@ pub mod Runs
 pub mod NodeList
 pub mod HeaderRead
 pub mod HeaderWritten
+pub mod Told
 pub mod OneOutcome

@@ -77,7 +77,8 @@ written-back e =
 
 abbrev pub OneAnswer : (n : ℕ) (ps : List (PK n)) (k : RK n) → Out n ps k → Type 0
 OneAnswer n ps k Post =
-    (κs : Lfts n) (a : Dens κs ps) (r r′ : resT k κs .Denot) (x x′ : AtExit (endedOf n ps k) κs) → Post κs a r x → Post κs a r′ x′ → r ≡ r′
+    (κs : Lfts n) (a : Dens κs ps) (r r′ : resT k κs .Denot) (x x′ : AtExit (endedOf n ps k) κs)
+    → Post κs a r x → Post κs a r′ x′ → r ≡ r′
 
 pub read-number-one : OneAnswer 1 read-number-kinds.ps read-number-kinds.r read-number.Post
 read-number-one κs a r r′ x x′ p q = sym (number-back r) ∙ ap number-of (p ∙ sym q) ∙ number-back r′

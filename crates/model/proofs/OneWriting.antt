@@ -42,8 +42,10 @@ module _ (file : List ℕ) (all : Bytes file) where
       let x = event-had file at e next f in
       let k = number-is file at (kind e) (x .middle) (x .kind-had) all in
       let a = number-is file (x .middle) (argument e) next (x .argument-had) all in
+      let last : numbersBytes (argument e ∷ []) ++ drop next file ≡ numberBytes (argument e) ++ drop next file =
+      numbers-assoc (argument e) [] (drop next file) ∙ ap (λ (l : List ℕ). numberBytes (argument e) ++ (l ++ drop next file)) numbers-nil in
       let bytes : eventBytes e ++ drop next file ≡ numberBytes (kind e) ++ (numberBytes (argument e) ++ drop next file) =
-      numbers-assoc (kind e) (argument e ∷ []) (drop next file) ∙ ap (λ (l : List ℕ). numberBytes (kind e) ++ l) (numbers-assoc (argument e) [] (drop next file) ∙ ap (λ (l : List ℕ). numberBytes (argument e) ++ (l ++ drop next file)) numbers-nil) in
+      numbers-assoc (kind e) (argument e ∷ []) (drop next file) ∙ ap (λ (l : List ℕ). numberBytes (kind e) ++ l) last in
       (number-small file (x .middle) (argument e) next (x .argument-had) all, k ∙ ap (λ (l : List ℕ). numberBytes (kind e) ++ l) a ∙ sym bytes)
 
   pub header-is : (at : ℕ) (h : Header) (next : ℕ) → readHeader file at ≡ had h next
@@ -58,7 +60,10 @@ module _ (file : List ℕ) (all : Bytes file) where
       let n₂ = number-is file (x .p) (h .destination) (x .q) (x .destination-had) all in
       let n₃ = number-is file (x .q) (x .links) (x .r) (x .links-had) all in
       let e₃ : drop (x .q) file ≡ numbersBytes (linksIn list ∷ list) ++ rest =
-      n₃ ∙ ap (λ (m : ℕ). numberBytes m ++ drop (x .r) file) same ∙ ap (λ (k : List ℕ). numberBytes (linksIn list) ++ k) (l .1) ∙ sym (numbers-assoc (linksIn list) list rest) in
+      n₃
+      ∙ ap (λ (m : ℕ). numberBytes m ++ drop (x .r) file) same
+      ∙ ap (λ (k : List ℕ). numberBytes (linksIn list) ++ k) (l .1)
+      ∙ sym (numbers-assoc (linksIn list) list rest) in
       let e₂ : drop (x .p) file ≡ numbersBytes (h .destination ∷ linksIn list ∷ list) ++ rest =
       n₂ ∙ ap (λ (k : List ℕ). numberBytes (h .destination) ++ k) e₃ ∙ sym (numbers-assoc (h .destination) (linksIn list ∷ list) rest) in
       (x .opened, n₁ ∙ ap (λ (k : List ℕ). numberBytes (h .nodes) ++ k) e₂ ∙ sym (numbers-assoc (h .nodes) (h .destination ∷ linksIn list ∷ list) rest))
@@ -69,7 +74,8 @@ module _ (file : List ℕ) (all : Bytes file) where
   none-left : (at : ℕ) (es : List Event) → length file ≤ at → [] ≡ es → EventsAre at es
   none-left at es h e = rw (← e) (drop-of-length-le file h ∙ sym events-nil, tt)
 
-  one-more : (at : ℕ) (e : Event) (es more : List Event) (next : ℕ) → readEvent file at ≡ had (some e) next → EventsAre next more → e ∷ more ≡ es → EventsAre at es
+  one-more : (at : ℕ) (e : Event) (es more : List Event) (next : ℕ) → readEvent file at ≡ had (some e) next → EventsAre next more
+      → e ∷ more ≡ es → EventsAre at es
   one-more at e es more next f ih q =
       let x = event-is at e next f in
       rw (← q) (x .1 ∙ ap (λ (l : List ℕ). eventBytes e ++ l) (ih .0) ∙ sym (events-cons e more), (x .0, ih .1))

@@ -46,7 +46,8 @@ module _ (file : List ℕ) where
       let made = of-kind e in
       let r = first-read at k (a ∷ []) t s (omega (arith, kind-small e)) in
       let u = first-read (at + length (numberBytes k)) a [] t (others at k (a ∷ []) t s) h in
-      let q : at + length (numberBytes k) + length (numberBytes a) ≡ at + length (eventBytes e) = omega (arith, numbers-length k (a ∷ []), numbers-length a [], ap length numbers-nil) in
+      let q : at + length (numberBytes k) + length (numberBytes a) ≡ at + length (eventBytes e) =
+      omega (arith, numbers-length k (a ∷ []), numbers-length a [], ap length numbers-nil) in
       let here = before-end file at (numberBytes k) (numbersBytes (a ∷ []) ++ t) (s ∙ numbers-assoc k (a ∷ []) t) (number-long k) in
       rw (lt-leb (length file) at (omega (arith, here, number-long k)), r, made .1, u, made .2, q)
 

@@ -20,15 +20,25 @@ enum-told : tie.Need-enum-told
 enum-told c = search needs
 
 returns-2 : tie.Need-returns-2
-returns-2 c = no-kind (now (c .before .before .before .before .before .args .file)) (c .before .before .before .before .before .args .from) (c .before .before .before .if1 .left) (c .before .before .read-number .ensures) _ (c .enum-told .given .1)
+returns-2 c =
+    let at-read-number = c .before .before in
+    let at-if1 = at-read-number .before in
+    let start = at-if1 .before .before in
+    no-kind (now (start .args .file)) (start .args .from) (at-if1 .if1 .left) (at-read-number .read-number .ensures) _ (c .enum-told .given .1)
 
 is-kind-requires : tie.Need-is-kind-requires
 is-kind-requires c κs = search needs
 
 returns-3 : tie.Need-returns-3
 returns-3 c =
-    let known = sym (c .before .is-kind .ensures) ∙ not-true _ (c .if2 .taken) in
-    unknown-kind (now (c .before .before .before .before .before .before .before .before .args .file)) (c .before .before .before .before .before .before .before .before .args .from) (c .before .before .before .before .before .before .if1 .left) (c .before .before .before .before .before .read-number .ensures) _ _ (c .before .before .before .kind .given .1) known
+    let at-is-kind = c .before in
+    let at-kind = at-is-kind .before .before in
+    let at-read-number = at-kind .before .before in
+    let at-if1 = at-read-number .before in
+    let start = at-if1 .before .before in
+    let known = sym (at-is-kind .is-kind .ensures) ∙ not-true _ (c .if2 .taken) in
+    unknown-kind (now (start .args .file)) (start .args .from) (at-if1 .if1 .left) (at-read-number .read-number .ensures) _ _
+    (at-kind .kind .given .1) known
 
 read-number-requires-2 : tie.Need-read-number-requires-2
 read-number-requires-2 c κs = search needs
@@ -41,13 +51,30 @@ enum-told-2 c = search needs
 
 returns-4 : tie.Need-returns-4
 returns-4 c =
-    let known = sym (c .before .before .before .before .is-kind .ensures) ∙ not-false _ (c .before .before .before .if2 .left) in
-    no-argument (now (c .before .before .before .before .before .before .before .before .before .before .before .args .file)) (c .before .before .before .before .before .before .before .before .before .before .before .args .from) (c .before .before .before .before .before .before .before .before .before .if1 .left) (c .before .before .before .before .before .before .before .before .read-number .ensures) _ _ (c .before .before .before .before .before .before .kind .given .1) known (c .before .before .read-number2 .ensures) _ (c .enum-told2 .given .1)
+    let at-read-number2 = c .before .before in
+    let at-if2 = at-read-number2 .before in
+    let at-is-kind = at-if2 .before in
+    let at-kind = at-is-kind .before .before in
+    let at-read-number = at-kind .before .before in
+    let at-if1 = at-read-number .before in
+    let start = at-if1 .before .before in
+    let known = sym (at-is-kind .is-kind .ensures) ∙ not-false _ (at-if2 .if2 .left) in
+    no-argument (now (start .args .file)) (start .args .from) (at-if1 .if1 .left) (at-read-number .read-number .ensures) _ _
+    (at-kind .kind .given .1) known (at-read-number2 .read-number2 .ensures) _ (c .enum-told2 .given .1)
 
 returns-5 : tie.Need-returns-5
 returns-5 c =
-    let known = sym (c .before .before .before .before .before .is-kind .ensures) ∙ not-false _ (c .before .before .before .before .if2 .left) in
-    whole (now (c .before .before .before .before .before .before .before .before .before .before .before .before .args .file)) (c .before .before .before .before .before .before .before .before .before .before .before .before .args .from) (c .before .before .before .before .before .before .before .before .before .before .if1 .left) (c .before .before .before .before .before .before .before .before .before .read-number .ensures) _ _ (c .before .before .before .before .before .before .before .kind .given .1) known (c .before .before .before .read-number2 .ensures) _ _ (c .before .argument .given .1)
+    let at-argument = c .before in
+    let at-read-number2 = at-argument .before .before in
+    let at-if2 = at-read-number2 .before in
+    let at-is-kind = at-if2 .before in
+    let at-kind = at-is-kind .before .before in
+    let at-read-number = at-kind .before .before in
+    let at-if1 = at-read-number .before in
+    let start = at-if1 .before .before in
+    let known = sym (at-is-kind .is-kind .ensures) ∙ not-false _ (at-if2 .if2 .left) in
+    whole (now (start .args .file)) (start .args .from) (at-if1 .if1 .left) (at-read-number .read-number .ensures) _ _ (at-kind .kind .given .1)
+    known (at-read-number2 .read-number2 .ensures) _ _ (at-argument .argument .given .1)
 
 pub read-event-spec : {M : Type 1} → statement M
 read-event-spec =

@@ -30,8 +30,14 @@ refused-requires c κs = search needs
 
 returns : tie.Need-returns
 returns c =
-    let cut = sym (first-at (now (c .before .before .before .before .before .before .args .file)) (c .before .before .before .before .before .before .args .from) _ (c .before .before .before .before .within .ensures)) ∙ as-spoilt (now (c .before .before .before .before .before .before .args .file)) _ _ (omega (arith, c .before .before .before .before .within .ensures)) (c .before .before .before .read-number .ensures) (c .before .enum-told .given .1) in
-    refuses (readHeader (now (c .before .before .before .before .before .before .args .file)) (c .before .before .before .before .before .before .args .from .at)) _ _ (c .before .before .before .before .before .before .args .from) _ (c .refused .ensures) (nodes-cut (now (c .before .before .before .before .before .before .args .file)) _ _ cut)
+    let at-enum-told = c .before in
+    let at-read-number = at-enum-told .before .before in
+    let at-within = at-read-number .before in
+    let start = at-within .before .before in
+    let cut = sym (first-at (now (start .args .file)) (start .args .from) _ (at-within .within .ensures)) ∙ as-spoilt (now (start .args .file))
+    _ _ (omega (arith, at-within .within .ensures)) (at-read-number .read-number .ensures) (at-enum-told .enum-told .given .1) in
+    refuses (readHeader (now (start .args .file)) (start .args .from .at)) _ _ (start .args .from) _ (c .refused .ensures)
+    (nodes-cut (now (start .args .file)) _ _ cut)
 
 read-number-requires-2 : tie.Need-read-number-requires-2
 read-number-requires-2 c κs = search needs
@@ -47,9 +53,18 @@ refused-requires-2 c κs = search needs
 
 returns-2 : tie.Need-returns-2
 returns-2 c =
-    let nodes = sym (first-at (now (c .before .before .before .before .before .before .before .before .before .before .args .file)) (c .before .before .before .before .before .before .before .before .before .before .args .from) _ (c .before .before .before .before .before .before .before .before .within .ensures)) ∙ as-had (now (c .before .before .before .before .before .before .before .before .before .before .args .file)) _ _ _ (c .before .before .before .before .before .before .before .read-number .ensures) (c .before .before .before .before .before .nodes .given .1) in
-    let cut = as-spoilt (now (c .before .before .before .before .before .before .before .before .before .before .args .file)) _ _ (number-moves (now (c .before .before .before .before .before .before .before .before .before .before .args .file)) _ _ _ nodes .1) (c .before .before .before .read-number2 .ensures) (c .before .enum-told2 .given .1) in
-    refuses (readHeader (now (c .before .before .before .before .before .before .before .before .before .before .args .file)) (c .before .before .before .before .before .before .before .before .before .before .args .from .at)) _ _ (c .before .before .before .before .before .before .before .before .before .before .args .from) _ (c .refused2 .ensures) (destination-cut (now (c .before .before .before .before .before .before .before .before .before .before .args .file)) _ _ _ nodes _ cut)
+    let at-enum-told2 = c .before in
+    let at-read-number2 = at-enum-told2 .before .before in
+    let at-nodes = at-read-number2 .before .before in
+    let at-read-number = at-nodes .before .before in
+    let at-within = at-read-number .before in
+    let start = at-within .before .before in
+    let nodes = sym (first-at (now (start .args .file)) (start .args .from) _ (at-within .within .ensures)) ∙ as-had (now (start .args .file)) _
+    _ _ (at-read-number .read-number .ensures) (at-nodes .nodes .given .1) in
+    let cut = as-spoilt (now (start .args .file)) _ _ (number-moves (now (start .args .file)) _ _ _ nodes .1)
+    (at-read-number2 .read-number2 .ensures) (at-enum-told2 .enum-told2 .given .1) in
+    refuses (readHeader (now (start .args .file)) (start .args .from .at)) _ _ (start .args .from) _ (c .refused2 .ensures)
+    (destination-cut (now (start .args .file)) _ _ _ nodes _ cut)
 
 read-number-requires-3 : tie.Need-read-number-requires-3
 read-number-requires-3 c κs = search needs
@@ -65,10 +80,21 @@ refused-requires-3 c κs = search needs
 
 returns-3 : tie.Need-returns-3
 returns-3 c =
-    let nodes = sym (first-at (now (c .before .before .before .before .before .before .before .before .before .before .before .before .before .before .args .file)) (c .before .before .before .before .before .before .before .before .before .before .before .before .before .before .args .from) _ (c .before .before .before .before .before .before .before .before .before .before .before .before .within .ensures)) ∙ as-had (now (c .before .before .before .before .before .before .before .before .before .before .before .before .before .before .args .file)) _ _ _ (c .before .before .before .before .before .before .before .before .before .before .before .read-number .ensures) (c .before .before .before .before .before .before .before .before .before .nodes .given .1) in
-    let destination = as-had (now (c .before .before .before .before .before .before .before .before .before .before .before .before .before .before .args .file)) _ _ _ (c .before .before .before .before .before .before .before .read-number2 .ensures) (c .before .before .before .before .before .destination .given .1) in
-    let cut = as-spoilt (now (c .before .before .before .before .before .before .before .before .before .before .before .before .before .before .args .file)) _ _ (number-moves (now (c .before .before .before .before .before .before .before .before .before .before .before .before .before .before .args .file)) _ _ _ destination .1) (c .before .before .before .read-number3 .ensures) (c .before .enum-told3 .given .1) in
-    refuses (readHeader (now (c .before .before .before .before .before .before .before .before .before .before .before .before .before .before .args .file)) (c .before .before .before .before .before .before .before .before .before .before .before .before .before .before .args .from .at)) _ _ (c .before .before .before .before .before .before .before .before .before .before .before .before .before .before .args .from) _ (c .refused3 .ensures) (links-cut (now (c .before .before .before .before .before .before .before .before .before .before .before .before .before .before .args .file)) _ _ _ nodes _ _ destination _ cut)
+    let at-enum-told3 = c .before in
+    let at-read-number3 = at-enum-told3 .before .before in
+    let at-destination = at-read-number3 .before .before in
+    let at-read-number2 = at-destination .before .before in
+    let at-nodes = at-read-number2 .before .before in
+    let at-read-number = at-nodes .before .before in
+    let at-within = at-read-number .before in
+    let start = at-within .before .before in
+    let nodes = sym (first-at (now (start .args .file)) (start .args .from) _ (at-within .within .ensures)) ∙ as-had (now (start .args .file)) _
+    _ _ (at-read-number .read-number .ensures) (at-nodes .nodes .given .1) in
+    let destination = as-had (now (start .args .file)) _ _ _ (at-read-number2 .read-number2 .ensures) (at-destination .destination .given .1) in
+    let cut = as-spoilt (now (start .args .file)) _ _ (number-moves (now (start .args .file)) _ _ _ destination .1)
+    (at-read-number3 .read-number3 .ensures) (at-enum-told3 .enum-told3 .given .1) in
+    refuses (readHeader (now (start .args .file)) (start .args .from .at)) _ _ (start .args .from) _ (c .refused3 .ensures)
+    (links-cut (now (start .args .file)) _ _ _ nodes _ _ destination _ cut)
 
 sizes-hold-requires : tie.Need-sizes-hold-requires
 sizes-hold-requires c κs = search needs
@@ -78,25 +104,53 @@ refused-requires-4 c κs = search needs
 
 returns-4 : tie.Need-returns-4
 returns-4 c =
-    let nodes = sym (first-at (now (c .before .before .before .before .before .before .before .before .before .before .before .before .before .before .before .before .before .args .file)) (c .before .before .before .before .before .before .before .before .before .before .before .before .before .before .before .before .before .args .from) _ (c .before .before .before .before .before .before .before .before .before .before .before .before .before .before .before .within .ensures)) ∙ as-had (now (c .before .before .before .before .before .before .before .before .before .before .before .before .before .before .before .before .before .args .file)) _ _ _ (c .before .before .before .before .before .before .before .before .before .before .before .before .before .before .read-number .ensures) (c .before .before .before .before .before .before .before .before .before .before .before .before .nodes .given .1) in
-    let destination = as-had (now (c .before .before .before .before .before .before .before .before .before .before .before .before .before .before .before .before .before .args .file)) _ _ _ (c .before .before .before .before .before .before .before .before .before .before .read-number2 .ensures) (c .before .before .before .before .before .before .before .before .destination .given .1) in
-    let links = as-had (now (c .before .before .before .before .before .before .before .before .before .before .before .before .before .before .before .before .before .args .file)) _ _ _ (c .before .before .before .before .before .before .read-number3 .ensures) (c .before .before .before .before .links .given .1) in
-    let sizes = sym (c .before .before .sizes-hold .ensures) ∙ not-true _ (c .before .if1 .taken) in
-    refuses (readHeader (now (c .before .before .before .before .before .before .before .before .before .before .before .before .before .before .before .before .before .args .file)) (c .before .before .before .before .before .before .before .before .before .before .before .before .before .before .before .before .before .args .from .at)) _ _ (c .before .before .before .before .before .before .before .before .before .before .before .before .before .before .before .before .before .args .from) _ (c .refused4 .ensures) (wrong-sizes (now (c .before .before .before .before .before .before .before .before .before .before .before .before .before .before .before .before .before .args .file)) _ _ _ nodes _ _ destination _ _ links sizes)
+    let at-if1 = c .before in
+    let at-sizes-hold = at-if1 .before in
+    let at-links = at-sizes-hold .before .before in
+    let at-read-number3 = at-links .before .before in
+    let at-destination = at-read-number3 .before .before in
+    let at-read-number2 = at-destination .before .before in
+    let at-nodes = at-read-number2 .before .before in
+    let at-read-number = at-nodes .before .before in
+    let at-within = at-read-number .before in
+    let start = at-within .before .before in
+    let nodes = sym (first-at (now (start .args .file)) (start .args .from) _ (at-within .within .ensures)) ∙ as-had (now (start .args .file)) _
+    _ _ (at-read-number .read-number .ensures) (at-nodes .nodes .given .1) in
+    let destination = as-had (now (start .args .file)) _ _ _ (at-read-number2 .read-number2 .ensures) (at-destination .destination .given .1) in
+    let links = as-had (now (start .args .file)) _ _ _ (at-read-number3 .read-number3 .ensures) (at-links .links .given .1) in
+    let sizes = sym (at-sizes-hold .sizes-hold .ensures) ∙ not-true _ (at-if1 .if1 .taken) in
+    refuses (readHeader (now (start .args .file)) (start .args .from .at)) _ _ (start .args .from) _ (c .refused4 .ensures)
+    (wrong-sizes (now (start .args .file)) _ _ _ nodes _ _ destination _ _ links sizes)
 
 read-links-requires : tie.Need-read-links-requires
 read-links-requires c κs =
-    let links = as-had (now (c .before .before .before .before .before .before .before .before .before .before .before .before .before .before .before .before .args .file)) _ _ _ (c .before .before .before .before .before .read-number3 .ensures) (c .before .before .before .links .given .1) in
-    let sizes = sym (c .before .sizes-hold .ensures) ∙ not-false _ (c .if1 .left) in
-    (number-moves (now (c .before .before .before .before .before .before .before .before .before .before .before .before .before .before .before .before .args .file)) _ _ _ links .1, sizes-small _ _ _ sizes .2)
+    let at-sizes-hold = c .before in
+    let at-links = at-sizes-hold .before .before in
+    let at-read-number3 = at-links .before .before in
+    let start = at-read-number3 .before .before .before .before .before .before .before .before .before .before .before in
+    let links = as-had (now (start .args .file)) _ _ _ (at-read-number3 .read-number3 .ensures) (at-links .links .given .1) in
+    let sizes = sym (at-sizes-hold .sizes-hold .ensures) ∙ not-false _ (c .if1 .left) in
+    (number-moves (now (start .args .file)) _ _ _ links .1, sizes-small _ _ _ sizes .2)
 
 returns-5 : tie.Need-returns-5
 returns-5 c =
-    let nodes = sym (first-at (now (c .before .before .before .before .before .before .before .before .before .before .before .before .before .before .before .before .before .args .file)) (c .before .before .before .before .before .before .before .before .before .before .before .before .before .before .before .before .before .args .from) _ (c .before .before .before .before .before .before .before .before .before .before .before .before .before .before .before .within .ensures)) ∙ as-had (now (c .before .before .before .before .before .before .before .before .before .before .before .before .before .before .before .before .before .args .file)) _ _ _ (c .before .before .before .before .before .before .before .before .before .before .before .before .before .before .read-number .ensures) (c .before .before .before .before .before .before .before .before .before .before .before .before .nodes .given .1) in
-    let destination = as-had (now (c .before .before .before .before .before .before .before .before .before .before .before .before .before .before .before .before .before .args .file)) _ _ _ (c .before .before .before .before .before .before .before .before .before .before .read-number2 .ensures) (c .before .before .before .before .before .before .before .before .destination .given .1) in
-    let links = as-had (now (c .before .before .before .before .before .before .before .before .before .before .before .before .before .before .before .before .before .args .file)) _ _ _ (c .before .before .before .before .before .before .read-number3 .ensures) (c .before .before .before .before .links .given .1) in
-    let sizes = sym (c .before .before .sizes-hold .ensures) ∙ not-false _ (c .before .if1 .left) in
-    subst (λ x. HeaderPost (c .before .before .before .before .before .before .before .before .before .before .before .before .before .before .before .before .before .args .from .at) x (c .read-links .result)) (sym (right-sizes (now (c .before .before .before .before .before .before .before .before .before .before .before .before .before .before .before .before .before .args .file)) _ _ _ nodes _ _ destination _ _ links sizes)) (c .read-links .ensures)
+    let at-if1 = c .before in
+    let at-sizes-hold = at-if1 .before in
+    let at-links = at-sizes-hold .before .before in
+    let at-read-number3 = at-links .before .before in
+    let at-destination = at-read-number3 .before .before in
+    let at-read-number2 = at-destination .before .before in
+    let at-nodes = at-read-number2 .before .before in
+    let at-read-number = at-nodes .before .before in
+    let at-within = at-read-number .before in
+    let start = at-within .before .before in
+    let nodes = sym (first-at (now (start .args .file)) (start .args .from) _ (at-within .within .ensures)) ∙ as-had (now (start .args .file)) _
+    _ _ (at-read-number .read-number .ensures) (at-nodes .nodes .given .1) in
+    let destination = as-had (now (start .args .file)) _ _ _ (at-read-number2 .read-number2 .ensures) (at-destination .destination .given .1) in
+    let links = as-had (now (start .args .file)) _ _ _ (at-read-number3 .read-number3 .ensures) (at-links .links .given .1) in
+    let sizes = sym (at-sizes-hold .sizes-hold .ensures) ∙ not-false _ (at-if1 .if1 .left) in
+    subst (λ x. HeaderPost (start .args .from .at) x (c .read-links .result))
+    (sym (right-sizes (now (start .args .file)) _ _ _ nodes _ _ destination _ _ links sizes)) (c .read-links .ensures)
 
 pub read-header-spec : {M : Type 1} → statement M
 read-header-spec =

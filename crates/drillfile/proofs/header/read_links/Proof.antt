@@ -18,7 +18,13 @@ refused-requires : tie.Need-refused-requires
 refused-requires c κs = search needs
 
 returns : tie.Need-returns
-returns c = list-cut (c .before .before .before .before .args .nodes) (c .before .before .before .before .args .destination) (c .before .before .before .before .args .links) (now (c .before .before .before .before .args .file)) (c .before .before .before .before .args .at) (c .before .before .before .before .args .from) (c .before .before .read-list .result) (c .before .before .read-list .ensures .0) _ (not-true _ (c .before .if1 .taken)) (c .refused .ensures)
+returns c =
+    let at-if1 = c .before in
+    let at-read-list = at-if1 .before in
+    let start = at-read-list .before .before in
+    list-cut (start .args .nodes) (start .args .destination) (start .args .links) (now (start .args .file)) (start .args .at)
+    (start .args .from) (at-read-list .read-list .result) (at-read-list .read-list .ensures .0) _ (not-true _ (at-if1 .if1 .taken))
+    (c .refused .ensures)
 
 array-share-prefix-list : tie.Need-array-share-prefix-list
 array-share-prefix-list c = omega (arith, c .before .before .read-list .ensures .1, c .before .before .before .before .pre .1)
@@ -30,10 +36,24 @@ open-requires : tie.Need-open-requires
 open-requires c κs = search needs
 
 returns-2 : tie.Need-returns-2
-returns-2 c = not-opened (c .before .before .before .before .before .before .before .before .args .nodes) (c .before .before .before .before .before .before .before .before .args .destination) (c .before .before .before .before .before .before .before .before .args .links) (now (c .before .before .before .before .before .before .before .before .args .file)) (c .before .before .before .before .before .before .before .before .args .at) (c .before .before .before .before .before .before .before .before .args .from) (c .before .before .before .before .before .before .read-list .result) (c .before .before .before .before .before .before .read-list .ensures .0) (not-false _ (c .before .before .before .before .before .if1 .left)) _ (c .before .before .«open» .ensures) (c .if2 .taken)
+returns-2 c =
+    let at-open = c .before .before in
+    let at-if1 = at-open .before .before .before in
+    let at-read-list = at-if1 .before in
+    let start = at-read-list .before .before in
+    not-opened (start .args .nodes) (start .args .destination) (start .args .links) (now (start .args .file)) (start .args .at)
+    (start .args .from) (at-read-list .read-list .result) (at-read-list .read-list .ensures .0) (not-false _ (at-if1 .if1 .left)) _
+    (at-open .«open» .ensures) (c .if2 .taken)
 
 returns-3 : tie.Need-returns-3
-returns-3 c = opens-it (c .before .before .before .before .before .before .before .before .args .nodes) (c .before .before .before .before .before .before .before .before .args .destination) (c .before .before .before .before .before .before .before .before .args .links) (now (c .before .before .before .before .before .before .before .before .args .file)) (c .before .before .before .before .before .before .before .before .args .at) (c .before .before .before .before .before .before .before .before .args .from) (c .before .before .before .before .before .before .read-list .result) (c .before .before .before .before .before .before .read-list .ensures .0) (not-false _ (c .before .before .before .before .before .if1 .left)) _ (c .before .before .«open» .ensures) (c .if2 .left)
+returns-3 c =
+    let at-open = c .before .before in
+    let at-if1 = at-open .before .before .before in
+    let at-read-list = at-if1 .before in
+    let start = at-read-list .before .before in
+    opens-it (start .args .nodes) (start .args .destination) (start .args .links) (now (start .args .file)) (start .args .at)
+    (start .args .from) (at-read-list .read-list .result) (at-read-list .read-list .ensures .0) (not-false _ (at-if1 .if1 .left)) _
+    (at-open .«open» .ensures) (c .if2 .left)
 
 pub read-links-spec : {M : Type 1} → statement M
 read-links-spec =

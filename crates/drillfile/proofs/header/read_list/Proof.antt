@@ -27,7 +27,16 @@ enum-told : tie.Need-enum-told Inv-loop μ-loop
 enum-told c = search needs
 
 returns : tie.Need-returns Inv-loop μ-loop
-returns c = (cut-off (now (c .before .before .before .before .before .before .args .file)) (c .before .before .before .before .before .before .args .at) (c .before .before .before .before .before .before .args .count) _ _ _ (c .before .before .before .before .loop .inv) (c .before .before .before .loop-test .taken) (as-spoilt (now (c .before .before .before .before .before .before .args .file)) _ _ (c .before .before .before .before .loop .inv .inside) (c .before .before .read-number .ensures) (c .enum-told .given .1)), c .before .before .before .before .loop .inv .size)
+returns c =
+    let at-read-number = c .before .before in
+    let at-loop-test = at-read-number .before in
+    let at-loop = at-loop-test .before in
+    let start = at-loop .before .before in
+    let cut = as-spoilt (now (start .args .file)) _ _ (at-loop .loop .inv .inside) (at-read-number .read-number .ensures)
+    (c .enum-told .given .1) in
+    let list = cut-off (now (start .args .file)) (start .args .at) (start .args .count) _ _ _ (at-loop .loop .inv)
+    (at-loop-test .loop-test .taken) cut in
+    (list, at-loop .loop .inv .size)
 
 mul-list : tie.Need-mul-list Inv-loop μ-loop
 mul-list c = search needs
@@ -42,10 +51,21 @@ loop-less : tie.Need-loop-less Inv-loop μ-loop
 loop-less c = search needs
 
 loop-again : tie.Need-loop-again Inv-loop μ-loop
-loop-again c = one-more (now (c .before .before .before .before .before .before .before .args .file)) (c .before .before .before .before .before .before .before .args .at) (c .before .before .before .before .before .before .before .args .count) _ _ _ (c .before .before .before .before .before .loop .inv) (c .before .before .before .before .loop-test .taken) _ _ (c .before .before .before .before .before .before .before .pre .1) (as-had (now (c .before .before .before .before .before .before .before .args .file)) _ _ _ (c .before .before .before .read-number .ensures) (c .before .node .given .1))
+loop-again c =
+    let at-node = c .before in
+    let at-read-number = at-node .before .before in
+    let at-loop-test = at-read-number .before in
+    let at-loop = at-loop-test .before in
+    let start = at-loop .before .before in
+    let had = as-had (now (start .args .file)) _ _ _ (at-read-number .read-number .ensures) (at-node .node .given .1) in
+    one-more (now (start .args .file)) (start .args .at) (start .args .count) _ _ _ (at-loop .loop .inv) (at-loop-test .loop-test .taken) _ _
+    (start .pre .1) had
 
 returns-2 : tie.Need-returns-2 Inv-loop μ-loop
-returns-2 c = (all-read (now (c .before .before .before .args .file)) (c .before .before .before .args .at) (c .before .before .before .args .count) _ _ _ (c .before .loop .inv) (c .loop-test .left), c .before .loop .inv .size)
+returns-2 c =
+    let at-loop = c .before in
+    let start = at-loop .before .before in
+    (all-read (now (start .args .file)) (start .args .at) (start .args .count) _ _ _ (at-loop .loop .inv) (c .loop-test .left), at-loop .loop .inv .size)
 
 pub read-list-spec : {M : Type 1} → statement M
 read-list-spec =

@@ -14,7 +14,9 @@ open-requires : tie.Need-open-requires
 open-requires c κs = search needs
 
 returns : tie.Need-returns
-returns c = refused-is _ (c .before .«open» .ensures) (c .before .before .before .args .answer) (c .before .before .before .args .place) (c .before .before .before .args .from)
+returns c =
+    let start = c .before .before .before in
+    refused-is _ (c .before .«open» .ensures) (start .args .answer) (start .args .place) (start .args .from)
 
 pub refused-spec : {M : Type 1} → statement M
 refused-spec =

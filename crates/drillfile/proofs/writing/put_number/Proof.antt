@@ -16,8 +16,11 @@ enum-known-a c = search needs
 
 slice-write-out : tie.Need-slice-write-out
 slice-write-out c =
-    let is = is-one (c .before .before .before .before .before .args .value) (c .before .before .before .before .before .pre .0) _ (c .before .before .before .split .ensures) _ (c .before .a .given .1) in
-    omega (arith, c .before .before .before .before .before .pre .1, ap length is)
+    let at-a = c .before in
+    let at-split = at-a .before .before in
+    let start = at-split .before .before in
+    let is = is-one (start .args .value) (start .pre .0) _ (at-split .split .ensures) _ (at-a .a .given .1) in
+    omega (arith, start .pre .1, ap length is)
 
 add-result : tie.Need-add-result
 add-result c = search needs
@@ -27,16 +30,22 @@ enum-known-a-2 c = search needs
 
 slice-write-out-2 : tie.Need-slice-write-out-2
 slice-write-out-2 c =
-    let is = is-two (c .before .before .before .before .before .args .value) (c .before .before .before .before .before .pre .0) _ (c .before .before .before .split .ensures) _ _ (c .before .a2 .given .1) in
-    omega (arith, c .before .before .before .before .before .pre .1, ap length is)
+    let at-a2 = c .before in
+    let at-split = at-a2 .before .before in
+    let start = at-split .before .before in
+    let is = is-two (start .args .value) (start .pre .0) _ (at-split .split .ensures) _ _ (at-a2 .a2 .given .1) in
+    omega (arith, start .pre .1, ap length is)
 
 add-out : tie.Need-add-out
 add-out c = search needs
 
 slice-write-out-3 : tie.Need-slice-write-out-3
 slice-write-out-3 c =
-    let is = is-two (c .before .before .before .before .before .args .value) (c .before .before .before .before .before .pre .0) _ (c .before .before .before .split .ensures) _ _ (c .before .a2 .given .1) in
-    simp length-set (omega (arith, c .before .before .before .before .before .pre .1, ap length is))
+    let at-a2 = c .before in
+    let at-split = at-a2 .before .before in
+    let start = at-split .before .before in
+    let is = is-two (start .args .value) (start .pre .0) _ (at-split .split .ensures) _ _ (at-a2 .a2 .given .1) in
+    simp length-set (omega (arith, start .pre .1, ap length is))
 
 add-result-2 : tie.Need-add-result-2
 add-result-2 c = search needs
@@ -46,24 +55,33 @@ enum-known-a-3 c = search needs
 
 slice-write-out-4 : tie.Need-slice-write-out-4
 slice-write-out-4 c =
-    let is = is-three (c .before .before .before .before .before .args .value) (c .before .before .before .before .before .pre .0) _ (c .before .before .before .split .ensures) _ _ _ (c .before .a3 .given .1) in
-    omega (arith, c .before .before .before .before .before .pre .1, ap length is)
+    let at-a3 = c .before in
+    let at-split = at-a3 .before .before in
+    let start = at-split .before .before in
+    let is = is-three (start .args .value) (start .pre .0) _ (at-split .split .ensures) _ _ _ (at-a3 .a3 .given .1) in
+    omega (arith, start .pre .1, ap length is)
 
 add-out-2 : tie.Need-add-out-2
 add-out-2 c = search needs
 
 slice-write-out-5 : tie.Need-slice-write-out-5
 slice-write-out-5 c =
-    let is = is-three (c .before .before .before .before .before .args .value) (c .before .before .before .before .before .pre .0) _ (c .before .before .before .split .ensures) _ _ _ (c .before .a3 .given .1) in
-    simp length-set (omega (arith, c .before .before .before .before .before .pre .1, ap length is))
+    let at-a3 = c .before in
+    let at-split = at-a3 .before .before in
+    let start = at-split .before .before in
+    let is = is-three (start .args .value) (start .pre .0) _ (at-split .split .ensures) _ _ _ (at-a3 .a3 .given .1) in
+    simp length-set (omega (arith, start .pre .1, ap length is))
 
 add-out-3 : tie.Need-add-out-3
 add-out-3 c = search needs
 
 slice-write-out-6 : tie.Need-slice-write-out-6
 slice-write-out-6 c =
-    let is = is-three (c .before .before .before .before .before .args .value) (c .before .before .before .before .before .pre .0) _ (c .before .before .before .split .ensures) _ _ _ (c .before .a3 .given .1) in
-    simp length-set (omega (arith, c .before .before .before .before .before .pre .1, ap length is))
+    let at-a3 = c .before in
+    let at-split = at-a3 .before .before in
+    let start = at-split .before .before in
+    let is = is-three (start .args .value) (start .pre .0) _ (at-split .split .ensures) _ _ _ (at-a3 .a3 .given .1) in
+    simp length-set (omega (arith, start .pre .1, ap length is))
 
 add-result-3 : tie.Need-add-result-3
 add-result-3 c = search needs
@@ -76,27 +94,39 @@ same-length c = search needs
 
 returns : tie.Need-returns
 returns c =
-    put-one (now (c .before .before .before .before .before .args .out)) (c .before .before .before .before .before .args .at) (c .before .before .before .before .before .args .value) _
-    (is-one (c .before .before .before .before .before .args .value) (c .before .before .before .before .before .pre .0) _ (c .before .before .before .split .ensures) _ (c .before .a .given .1))
+    let at-a = c .before in
+    let at-split = at-a .before .before in
+    let start = at-split .before .before in
+    put-one (now (start .args .out)) (start .args .at) (start .args .value) _
+    (is-one (start .args .value) (start .pre .0) _ (at-split .split .ensures) _ (at-a .a .given .1))
 
 same-length-2 : tie.Need-same-length-2
 same-length-2 c = search needs
 
 returns-2 : tie.Need-returns-2
 returns-2 c =
-    put-two (now (c .before .before .before .before .before .args .out)) (c .before .before .before .before .before .args .at) (c .before .before .before .before .before .args .value) _ _
-    (is-two (c .before .before .before .before .before .args .value) (c .before .before .before .before .before .pre .0) _ (c .before .before .before .split .ensures) _ _ (c .before .a2 .given .1))
+    let at-a2 = c .before in
+    let at-split = at-a2 .before .before in
+    let start = at-split .before .before in
+    put-two (now (start .args .out)) (start .args .at) (start .args .value) _ _
+    (is-two (start .args .value) (start .pre .0) _ (at-split .split .ensures) _ _ (at-a2 .a2 .given .1))
 
 same-length-3 : tie.Need-same-length-3
 same-length-3 c = search needs
 
 returns-3 : tie.Need-returns-3
 returns-3 c =
-    put-three (now (c .before .before .before .before .before .args .out)) (c .before .before .before .before .before .args .at) (c .before .before .before .before .before .args .value) _ _ _
-    (is-three (c .before .before .before .before .before .args .value) (c .before .before .before .before .before .pre .0) _ (c .before .before .before .split .ensures) _ _ _ (c .before .a3 .given .1))
+    let at-a3 = c .before in
+    let at-split = at-a3 .before .before in
+    let start = at-split .before .before in
+    put-three (now (start .args .out)) (start .args .at) (start .args .value) _ _ _
+    (is-three (start .args .value) (start .pre .0) _ (at-split .split .ensures) _ _ _ (at-a3 .a3 .given .1))
 
 returns-4 : tie.Need-returns-4
-returns-4 c = absurd (not-large (c .before .before .before .before .args .value) (c .before .before .before .before .pre .0) _ (c .before .before .split .ensures) (c .enum-told .given .1))
+returns-4 c =
+    let at-split = c .before .before in
+    let start = at-split .before .before in
+    absurd (not-large (start .args .value) (start .pre .0) _ (at-split .split .ensures) (c .enum-told .given .1))
 
 pub put-number-spec : {M : Type 1} → statement M
 put-number-spec =

@@ -23,7 +23,13 @@ shared-slice-read-put-number : tie.Need-shared-slice-read-put-number Inv-loop μ
 shared-slice-read-put-number c = search needs
 
 put-number-requires : tie.Need-put-number-requires Inv-loop μ-loop
-put-number-requires c κs = (c .before .before .before .before .before .before .pre .1 (c .before .before .before .loop .i), has-room (now (c .before .before .before .before .before .before .args .out)) (c .before .before .before .before .before .before .args .at) (now (c .before .before .before .before .before .before .args .list)) _ _ _ (c .before .before .before .loop .inv) (c .before .before .loop-test .taken) (c .before .before .before .before .before .before .pre .0))
+put-number-requires c κs =
+    let at-loop-test = c .before .before in
+    let at-loop = at-loop-test .before in
+    let start = at-loop .before .before .before in
+    let room = has-room (now (start .args .out)) (start .args .at) (now (start .args .list)) _ _ _ (at-loop .loop .inv)
+    (at-loop-test .loop-test .taken) (start .pre .0) in
+    (start .pre .1 (at-loop .loop .i), room)
 
 add-i : tie.Need-add-i Inv-loop μ-loop
 add-i c = search needs
@@ -32,13 +38,22 @@ loop-less : tie.Need-loop-less Inv-loop μ-loop
 loop-less c = search needs
 
 loop-again : tie.Need-loop-again Inv-loop μ-loop
-loop-again c = stored-more (now (c .before .before .before .before .before .before .before .before .before .args .out)) (c .before .before .before .before .before .before .before .before .before .args .at) (now (c .before .before .before .before .before .before .before .before .before .args .list)) _ _ _ (c .before .before .before .before .before .before .loop .inv) _ _ (c .before .before .before .before .before .loop-test .taken) (c .before .before .put-number .ensures .0) (c .before .before .put-number .ensures .1)
+loop-again c =
+    let at-put-number = c .before .before in
+    let at-loop-test = at-put-number .before .before .before in
+    let at-loop = at-loop-test .before in
+    let start = at-loop .before .before .before in
+    stored-more (now (start .args .out)) (start .args .at) (now (start .args .list)) _ _ _ (at-loop .loop .inv) _ _
+    (at-loop-test .loop-test .taken) (at-put-number .put-number .ensures .0) (at-put-number .put-number .ensures .1)
 
 same-length : tie.Need-same-length Inv-loop μ-loop
 same-length c = c .before .loop .inv .size
 
 returns : tie.Need-returns Inv-loop μ-loop
-returns c = stored-all (now (c .before .before .before .before .args .out)) (c .before .before .before .before .args .at) (now (c .before .before .before .before .args .list)) _ _ _ (c .before .loop .inv) (c .loop-test .left)
+returns c =
+    let at-loop = c .before in
+    let start = at-loop .before .before .before in
+    stored-all (now (start .args .out)) (start .args .at) (now (start .args .list)) _ _ _ (at-loop .loop .inv) (c .loop-test .left)
 
 pub put-numbers-spec : {M : Type 1} → statement M
 put-numbers-spec =

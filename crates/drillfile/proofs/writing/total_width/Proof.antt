@@ -27,7 +27,12 @@ width-requires : tie.Need-width-requires Inv-loop μ-loop
 width-requires c κs = c .before .before .before .before .pre (c .before .before .loop .i)
 
 add-sum : tie.Need-add-sum Inv-loop μ-loop
-add-sum c = record { fits = omega (arith, summed-fits (now (c .before .before .before .before .before .args .list)) _ _ (c .before .before .before .loop .inv) (c .before .before .loop-test .taken) (c .width .ensures), c .before .before .before .before .before .good .0 .1) }
+add-sum c =
+    let at-loop-test = c .before .before in
+    let at-loop = at-loop-test .before in
+    let start = at-loop .before .before in
+    let most = summed-fits (now (start .args .list)) _ _ (at-loop .loop .inv) (at-loop-test .loop-test .taken) (c .width .ensures) in
+    record { fits = omega (arith, most, start .good .0 .1) }
 
 add-i : tie.Need-add-i Inv-loop μ-loop
 add-i c = search needs
@@ -36,7 +41,11 @@ loop-less : tie.Need-loop-less Inv-loop μ-loop
 loop-less c = search needs
 
 loop-again : tie.Need-loop-again Inv-loop μ-loop
-loop-again c = summed-more (now (c .before .before .before .before .before .args .list)) _ _ (c .before .before .before .loop .inv) (c .before .before .loop-test .taken) (c .width .ensures)
+loop-again c =
+    let at-loop-test = c .before .before in
+    let at-loop = at-loop-test .before in
+    let start = at-loop .before .before in
+    summed-more (now (start .args .list)) _ _ (at-loop .loop .inv) (at-loop-test .loop-test .taken) (c .width .ensures)
 
 returns : tie.Need-returns Inv-loop μ-loop
 returns c = summed-all (now (c .before .before .before .args .list)) _ _ (c .before .loop .inv) (c .loop-test .left)

@@ -22,16 +22,28 @@ enum-told-4 : tie.Need-enum-told-4
 enum-told-4 c = search needs
 
 returns : tie.Need-returns
-returns c = ap length (sym (is-one (c .before .before .before .args .value) (c .before .before .before .pre) _ (c .before .before .split .ensures) _ (c .enum-told .given .1)))
+returns c =
+    let at-split = c .before .before in
+    let start = at-split .before in
+    ap length (sym (is-one (start .args .value) (start .pre) _ (at-split .split .ensures) _ (c .enum-told .given .1)))
 
 returns-2 : tie.Need-returns-2
-returns-2 c = ap length (sym (is-two (c .before .before .before .args .value) (c .before .before .before .pre) _ (c .before .before .split .ensures) _ _ (c .enum-told2 .given .1)))
+returns-2 c =
+    let at-split = c .before .before in
+    let start = at-split .before in
+    ap length (sym (is-two (start .args .value) (start .pre) _ (at-split .split .ensures) _ _ (c .enum-told2 .given .1)))
 
 returns-3 : tie.Need-returns-3
-returns-3 c = ap length (sym (is-three (c .before .before .before .args .value) (c .before .before .before .pre) _ (c .before .before .split .ensures) _ _ _ (c .enum-told3 .given .1)))
+returns-3 c =
+    let at-split = c .before .before in
+    let start = at-split .before in
+    ap length (sym (is-three (start .args .value) (start .pre) _ (at-split .split .ensures) _ _ _ (c .enum-told3 .given .1)))
 
 returns-4 : tie.Need-returns-4
-returns-4 c = absurd (not-large (c .before .before .before .args .value) (c .before .before .before .pre) _ (c .before .before .split .ensures) (c .enum-told4 .given .1))
+returns-4 c =
+    let at-split = c .before .before in
+    let start = at-split .before in
+    absurd (not-large (start .args .value) (start .pre) _ (at-split .split .ensures) (c .enum-told4 .given .1))
 
 pub width-spec : {M : Type 1} → statement M
 width-spec =
