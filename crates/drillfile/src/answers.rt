@@ -1,4 +1,4 @@
-// What the calls of this crate give back. specs/Numbers and specs/Outcomes say what each case stands for.
+// What the calls of this crate give back; specs/ says what each case stands for.
 use network::Network;
 ghost use mathlib.Core.Path.{_≡_};
 ghost use Rattle.drillfile.specs.Outcomes.{refusal};
