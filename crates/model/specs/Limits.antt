@@ -1,5 +1,5 @@
 -- "Numbers that bound it", each named here and nowhere else.
-use Prim.Native.Nat.{ℕ, _*_}
+use Prim.Native.Nat.{ℕ, _+_, _*_, _/_}
 
 -- "Nodes 1 to 64, numbered from 0."
 abbrev pub nodesMost : ℕ
@@ -35,3 +35,16 @@ group = 128
 -- "Largest value 2,097,151."
 abbrev pub numberMost : ℕ
 numberMost = 2_097_151
+
+-- An event's line in the program's text: an ordinal of five digits, an answer of two, a packet of six, a way of four letters, three spaces,
+-- a newline.
+abbrev pub lineMost : ℕ
+lineMost = 21
+
+-- The lines behind the events: "spoilt", "total" with five numbers, "turns" with one for each node, of seven digits at most.
+abbrev pub lastLinesMost : ℕ
+lastLinesMost = 580
+
+-- The program's whole text: an event takes two bytes of the file at least.
+abbrev pub textMost : ℕ
+textMost = lineMost * (fileMost / 2) + lastLinesMost

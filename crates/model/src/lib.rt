@@ -8,6 +8,7 @@ pub use limits::FLIGHT;
 pub use limits::LINKS;
 pub use limits::NODES;
 pub use limits::NUMBER;
+pub use limits::TEXT_MOST;
 
 // The packet that an event handled: its number, or none.
 pub enum Handled {

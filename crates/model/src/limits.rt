@@ -1,6 +1,6 @@
 // The limits of the code, each proved to be the limit of specs/Limits.antt. No other file names one by its digits.
 ghost use mathlib.Core.Path.{_≡_};
-ghost use Rattle.model.specs.Limits.{nodesMost, linksMost, endsMost, flightMost, eventsMost, fileMost, numberMost};
+ghost use Rattle.model.specs.Limits.{nodesMost, linksMost, endsMost, flightMost, eventsMost, fileMost, numberMost, textMost};
 
 pub const NODES: usize = 64;
 
@@ -15,6 +15,12 @@ pub const EVENTS: u32 = 1_000_000;
 pub const FILE: usize = 65_536;
 
 pub const NUMBER: u32 = 2_097_151;
+
+pub const LINE_MOST: usize = 21;
+
+pub const LAST_LINES_MOST: usize = 580;
+
+pub const TEXT_MOST: usize = LINE_MOST * (FILE / 2) + LAST_LINES_MOST;
 
 pub fn nodes() -> usize
     ensures { λ r. ⌜ r ≡ nodesMost ⌝ }
@@ -56,4 +62,10 @@ pub fn number() -> u32
     ensures { λ r. ⌜ r ≡ numberMost ⌝ }
 {
     NUMBER
+}
+
+pub fn text_most() -> usize
+    ensures { λ r. ⌜ r ≡ textMost ⌝ }
+{
+    TEXT_MOST
 }
