@@ -24,4 +24,5 @@ pub mod ReadBack
 pub mod Had
 pub mod OneWriting
 pub mod Pieces
+pub mod Digits
 pub mod Promises
