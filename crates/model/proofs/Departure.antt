@@ -71,3 +71,7 @@ module _ (s : State) (v : ℕ) where
   pub update-flight : update s v .flight ≡ s .flight
   unfolding update turn
   update-flight = elim (look (hasOut s v)) [ inl e ↦ rw e | inr e ↦ rw e ]
+
+  pub update-net : update s v .net ≡ s .net
+  unfolding update turn
+  update-net = elim (look (hasOut s v)) [ inl e ↦ rw e | inr e ↦ rw e ]

@@ -34,7 +34,7 @@ reached {s} {x} old =
     (rw (test-same (s .net .node (opp x))) (whole-live s (opp x) (whole-opp s x (old .joined))))
 
 -- the packet has a number that was admitted
-numbered : {s : State} {x : ℕ} {p : Packet} → Oldest s x p → Formed 0 0 s → p .number < s .counts .admitted
+pub numbered : {s : State} {x : ℕ} {p : Packet} → Oldest s x p → Formed 0 0 s → p .number < s .counts .admitted
 numbered {s} {x} old f = each-oldest (Flies s) x (s .flight) (old .first) (f .flies) .2
 
 pub kept : {s : State} {e : Event} {o : Outcome} → Step s e o → wellFormed s ≡ true → wellFormed (o .state) ≡ true

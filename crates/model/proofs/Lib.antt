@@ -10,6 +10,7 @@ pub mod Formed
 pub mod Kept
 pub mod Opened
 pub mod Single
+pub mod Named
 pub mod Link
 pub mod Invariant
 pub mod History

@@ -1,8 +1,9 @@
 -- A term for each promise of specs/Promises.antt. Assumes nothing.
-use Rattle.model.specs.Promises.{CasesHold, OthersHold, FourExactly, FormedKept, RefusedSame, WayOut, NineExactly, FailKeeps, TurnsBounded, TurnsCounted, EndsAgree, TenNever, FourPlaces, ReadBack, OneWritingEach, ReadingEnds, PiecesMakeWhole}
+use Rattle.model.specs.Promises.{CasesHold, OthersHold, FourExactly, FormedKept, RefusedSame, WayOut, NineExactly, FailKeeps, Named, TurnsBounded, TurnsCounted, EndsAgree, TenNever, FourPlaces, ReadBack, OneWritingEach, ReadingEnds, PiecesMakeWhole}
 use Rattle.model.proofs.Cases as cases
 use Rattle.model.proofs.Opening as opening
 use Rattle.model.proofs.Single as single
+use Rattle.model.proofs.Named as named-of
 use Rattle.model.proofs.Bound as bound
 use Rattle.model.proofs.Agreement as agreement
 use Rattle.model.proofs.Turns as turns
@@ -35,6 +36,9 @@ nine-exactly = single.nine-exactly
 
 pub fail-keeps : FailKeeps
 fail-keeps = single.fail-keeps
+
+pub named : Named
+named = named-of.named
 
 pub turns-bounded : TurnsBounded
 turns-bounded = bound.bound

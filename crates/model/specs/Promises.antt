@@ -7,17 +7,19 @@ use mathlib.Core.List.{List, _++_}
 use mathlib.Core.Option.{some}
 use lib.ListN.{length, drop}
 use Rattle.model.specs.declared.Handled.the-variants as handled
-use Rattle.model.specs.Limits.{flightMost, eventsMost, numberMost}
+use Rattle.model.specs.declared.Went.the-variants as went
+use Rattle.model.specs.Limits.{endsMost, flightMost, eventsMost, numberMost}
 use Rattle.model.specs.Answers as answers
 use Rattle.model.specs.Below.{all}
 use Rattle.model.specs.State.{end, opp, State, lanes, whole}
 use Rattle.model.specs.Formed.{endFormed, wellFormed}
 use Rattle.model.specs.Departure.{outAt, hasLive, hasOut, update, door}
+use Rattle.model.specs.Outcome.{Outcome}
 use Rattle.model.specs.Send.{sendTo}
 use Rattle.model.specs.Fail.{failOf}
 use Rattle.model.specs.Events.{Event, event}
 use Rattle.model.specs.Opening.{ClosedWalk, openFrom}
-use Rattle.model.specs.History.{History}
+use Rattle.model.specs.History.{History, after}
 use Rattle.model.specs.Paths.{Joined}
 use Rattle.model.specs.Agreement.{Agree, Untold}
 use Rattle.model.specs.Turns.{turnEvents}
@@ -85,6 +87,18 @@ pub record FailKeeps : Type 0 where
   pub directions : (s : State) (l : ℕ) → failOf s l .state .ends .out ≡ s .ends .out
   pub local-bits : (s : State) (l : ℕ) → failOf s l .state .ends .local ≡ s .ends .local
   pub remote-bits : (s : State) (l : ℕ) → failOf s l .state .ends .remote ≡ s .ends .remote
+
+-- What an event of a well-formed record gives is in range, so that each of its numbers has few digits: an answer of those that events give,
+-- a packet numbered below the most events, a lane of the record. The same after any run of events, accepted or refused.
+pub record InRange (s : State) (o : Outcome) : Type 0 where
+  pub answer : o .answer ≤ answers.outOfStep
+  pub packet : (n : ℕ) → o .handled ≡ handled.Packet n → n < eventsMost
+  pub lane : (x : ℕ) → o .went ≡ went.Lane x → x < lanes s
+  pub few-lanes : lanes s ≤ endsMost
+
+pub record Named : Type 0 where
+  pub one : (s : State) (e : Event) → wellFormed s ≡ true → InRange s (event s e)
+  pub run : (s : State) (es : List Event) (e : Event) → wellFormed s ≡ true → InRange (after s es) (event (after s es) e)
 
 -- ---- histories: an accepted opening, then any events, accepted or refused
 -- Demand 3: at every moment, a node joined to the destination by a path of k links that have not failed has turned at most k times. The
