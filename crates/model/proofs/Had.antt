@@ -115,12 +115,15 @@ header-had file at h next e =
     told file at (x .1) (y .1) (z .1) (z .0) (l .1) next g h (x .2) (y .2) (z .2) (l .2) (accepted-had g (l .1) h next (l .3))
 
 -- ---- reading moves on
-pub event-moves : (file : List ℕ) (at : ℕ) (e : Event) (next : ℕ) → readEvent file at ≡ had (some e) next → (at < next) × (next ≤ length file)
-event-moves file at e next f =
+pub event-wide : (file : List ℕ) (at : ℕ) (e : Event) (next : ℕ) → readEvent file at ≡ had (some e) next → (at + 2 ≤ next) × (next ≤ length file)
+event-wide file at e next f =
     let x = event-had file at e next f in
     let k = number-moves file at (kind e) (x .middle) (x .kind-had) in
     let a = number-moves file (x .middle) (argument e) next (x .argument-had) in
     (omega (arith, k .0, a .0), a .1)
+
+pub event-moves : (file : List ℕ) (at : ℕ) (e : Event) (next : ℕ) → readEvent file at ≡ had (some e) next → (at < next) × (next ≤ length file)
+event-moves file at e next f = let w = event-wide file at e next f in (omega (arith, w .0), w .1)
 
 numbers-move : (k : ℕ) (file : List ℕ) (at : ℕ) (ns : List ℕ) (next : ℕ) → at ≤ length file → readNumbers k file at ≡ had ns next
     → (at ≤ next) × (next ≤ length file)

@@ -26,4 +26,7 @@ pub mod Had
 pub mod OneWriting
 pub mod Pieces
 pub mod Digits
+pub mod InFile
+pub mod Lines
+pub mod TextFits
 pub mod Promises

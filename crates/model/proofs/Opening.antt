@@ -34,7 +34,7 @@ told false false false true e = absurd (omega (arith, e))
 told false false false false e = (refl, refl, refl)
 
 module _ (nodes destination : ℕ) (list : List ℕ) where
-  abbrev badSizes : Bool
+  abbrev pub badSizes : Bool
   badSizes = not (eqb (length list % 2) 0 && sized nodes destination (linksIn list))
 
   abbrev badLink : Bool

@@ -1,5 +1,5 @@
 -- A term for each promise of specs/Promises.antt. Assumes nothing.
-use Rattle.model.specs.Promises.{CasesHold, OthersHold, FourExactly, FormedKept, RefusedSame, WayOut, NineExactly, FailKeeps, Named, TurnsBounded, TurnsCounted, EndsAgree, TenNever, FourPlaces, ReadBack, OneWritingEach, ReadingEnds, PiecesMakeWhole}
+use Rattle.model.specs.Promises.{CasesHold, OthersHold, FourExactly, FormedKept, RefusedSame, WayOut, NineExactly, FailKeeps, Named, TurnsBounded, TurnsCounted, EndsAgree, TenNever, FourPlaces, ReadBack, OneWritingEach, ReadingEnds, PiecesMakeWhole, TextFits}
 use Rattle.model.proofs.Cases as cases
 use Rattle.model.proofs.Opening as opening
 use Rattle.model.proofs.Single as single
@@ -12,6 +12,7 @@ use Rattle.model.proofs.ReadBack as read-back-of
 use Rattle.model.proofs.Had as had
 use Rattle.model.proofs.OneWriting as one-writing-of
 use Rattle.model.proofs.Pieces as pieces
+use Rattle.model.proofs.TextFits as text
 
 pub cases-hold : CasesHold
 cases-hold = cases.tables .0
@@ -66,3 +67,6 @@ reading-ends = had.reading-ends
 
 pub pieces-make-whole : PiecesMakeWhole
 pieces-make-whole = pieces.pieces
+
+pub text-fits : TextFits
+text-fits = text.text-fits

@@ -41,7 +41,8 @@ numberMost = 2_097_151
 abbrev pub lineMost : ℕ
 lineMost = 21
 
--- The lines behind the events: "spoilt", "total" with five numbers, "turns" with one for each node, of seven digits at most.
+-- The lines behind the events: "spoilt 11" and a place of five digits (16 bytes), "total" and five numbers (46), "turns" and one for each
+-- node (518), these numbers of seven digits at most.
 abbrev pub lastLinesMost : ℕ
 lastLinesMost = 580
 

@@ -8,7 +8,7 @@ use mathlib.Core.Option.{some}
 use lib.ListN.{length, drop}
 use Rattle.model.specs.declared.Handled.the-variants as handled
 use Rattle.model.specs.declared.Went.the-variants as went
-use Rattle.model.specs.Limits.{endsMost, flightMost, eventsMost, numberMost}
+use Rattle.model.specs.Limits.{endsMost, flightMost, eventsMost, numberMost, textMost}
 use Rattle.model.specs.Answers as answers
 use Rattle.model.specs.Below.{all}
 use Rattle.model.specs.State.{end, opp, State, lanes, whole}
@@ -28,6 +28,7 @@ use Rattle.model.specs.Number.{numberBytes, had, readNumber}
 use Rattle.model.specs.File.{Header, opening, readHeader, argument, readEvent, andMore, eventsFrom, readEvents, Drill, read}
 use Rattle.model.specs.Writing.{headerBytes, eventBytes, write}
 use Rattle.model.specs.Writable.{Bytes, Writable, writePieces}
+use Rattle.model.specs.Text.{drillOutput}
 use Rattle.model.specs.Rows.{Hold}
 use Rattle.model.specs.Cases.{cases, others}
 
@@ -177,3 +178,8 @@ pub record ReadingEnds : Type 0 where
 abbrev pub PiecesMakeWhole : Type 0
 PiecesMakeWhole = (d : Drill) (part : List ℕ) → Writable d → length (write d) ≤ length part
     → writePieces d part ≡ write d ++ drop (length (write d)) part
+
+-- ---- the program's text
+-- Whatever the file, the program's whole text is no longer than the limit named for it.
+abbrev pub TextFits : Type 0
+TextFits = (file : List ℕ) → length (drillOutput file) ≤ textMost
