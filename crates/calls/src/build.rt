@@ -8,8 +8,8 @@ use crate::number::narrow16;
 use crate::number::plus;
 use crate::number::rest;
 use crate::number::wide;
+use arrays::SLOTS;
 use network::Network;
-use network::SLOTS;
 
 // The counts that a record was built with, whatever becomes of it.
 pub(crate) struct Sizes {

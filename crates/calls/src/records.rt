@@ -16,11 +16,11 @@ use crate::number::wide16;
 use crate::spoil::SPOILS;
 use crate::spoil::spoil;
 use crate::sum::of_record;
+use arrays::SLOTS;
 use model::Handled;
 use model::Went;
 use network::Moved;
 use network::Network;
-use network::SLOTS;
 
 const SHAPES: [usize; 8] = [0, 1, 2, 3, 0, 1, 4, 1];
 

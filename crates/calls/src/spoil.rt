@@ -14,8 +14,8 @@ use crate::number::plus;
 use crate::number::rest;
 use crate::number::wide;
 use crate::number::wide16;
+use arrays::SLOTS;
 use network::Network;
-use network::SLOTS;
 
 pub(crate) const SPOILS: usize = 94;
 

@@ -3,8 +3,8 @@ use crate::number::bit;
 use crate::number::least;
 use crate::number::wide;
 use crate::number::wide16;
+use arrays::SLOTS;
 use network::Network;
-use network::SLOTS;
 
 const MULTIPLIER: usize = 48_271;
 

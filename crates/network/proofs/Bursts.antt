@@ -16,8 +16,9 @@ use Rattle.model.specs.State.{State}
 use Rattle.model.specs.Formed.{wellFormed}
 use Rattle.model.specs.Outcome.{Outcome}
 use Rattle.model.proofs.Below.{look}
-use Rattle.network.specs.Calls.{call, calls, callAt, packetCode, wayCode, least, filled, Lists}
-use Rattle.network.proofs.Calls.{call-keeps, call-not-formed}
+use Rattle.steps.specs.Call.{call}
+use Rattle.network.specs.Calls.{calls, callAt, packetCode, wayCode, least, filled, Lists}
+use Rattle.steps.proofs.Calls.{call-keeps, call-not-formed}
 
 fills : (f : ℕ → ℕ) (k : ℕ) (xs : List ℕ) → k < length xs → set (filled f k xs) k (f k) ≡ filled f (suc k) xs
 unfolding tab

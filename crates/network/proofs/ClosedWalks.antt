@@ -15,7 +15,7 @@ use Rattle.model.specs.Below.{any, tab}
 use Rattle.model.specs.State.{end}
 use Rattle.model.specs.Opening.{nodeIn, linksIn, setsOut, holdsClosedWalk}
 use Rattle.model.proofs.Below.{tab-at}
-use Rattle.network.proofs.Below.{any-same, tab-replicate, tab-same, take-tab, set-tab}
+use Rattle.arrays.proofs.Below.{any-same, tab-replicate, tab-same, take-tab, set-tab}
 
 module _ (list : List ℕ) (shorter : List Bool) where
   -- by node, after l links: some of them leads from it to where a shorter walk sets out

@@ -14,10 +14,11 @@ use Rattle.model.specs.State.{Ends, Counts}
 use Rattle.model.specs.Opening.{nodeIn, linksIn, opened}
 use Rattle.model.proofs.Below.{look, tab-at}
 use Rattle.network.specs.declared.record.Network.{Network}
-use Rattle.network.specs.View.{used, netOf, endsOf, packetAt, stateOf, view}
-use Rattle.network.specs.Flight.{slots}
+use Rattle.arrays.specs.View.{used, netOf, endsOf, packetAt, stateOf}
+use Rattle.network.specs.View.{view}
+use Rattle.arrays.specs.Flight.{slots}
 use Rattle.network.specs.Opening.{loneNetwork}
-use Rattle.network.proofs.Below.{tab-replicate, tab-same, set-tab, used-is}
+use Rattle.arrays.proofs.Below.{tab-replicate, tab-same, set-tab, used-is}
 
 -- a function's values up to i, and the default from there on
 abbrev pub upTo {ℓ} : {A : Type ℓ} → (ℕ → A) → A → ℕ → ℕ → A

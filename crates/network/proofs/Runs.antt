@@ -19,9 +19,10 @@ use Rattle.model.specs.History.{History, start, next}
 use Rattle.model.proofs.Promises.{turns-bounded, turns-counted, ends-agree, four-places}
 use Rattle.network.specs.declared.record.Network.{Network}
 use Rattle.network.specs.View.{view}
-use Rattle.network.specs.Calls.{made, call, calls}
+use Rattle.steps.specs.Call.{made, call}
+use Rattle.network.specs.Calls.{calls}
 use Rattle.network.specs.Runs.{eventIf, eventsIn, Run, opened, sent, delivered, lost, failed, applied, burst, eventsOf, Kept, CodeKeeps}
-use Rattle.network.proofs.Calls.{none-kept}
+use Rattle.steps.proofs.Calls.{none-kept}
 
 record Past (s : State) (es : List Event) : Type 0 where
   pub history : History s

@@ -2,7 +2,6 @@
 use Prim.Native.Nat.{ℕ, zero, suc, _+_}
 use mathlib.Core.Bool.{false, cond}
 use mathlib.Core.List.{List, _++_}
-use mathlib.Core.Option.{Option, none, some}
 use mathlib.Core.Path.{_≡_}
 use lib.Dec.{ltb}
 use lib.ListN.{length, getD, drop}
@@ -15,21 +14,12 @@ use Rattle.model.specs.Answers as answers
 use Rattle.model.specs.Below.{tab}
 use Rattle.model.specs.State.{State}
 use Rattle.model.specs.Formed.{wellFormed}
-use Rattle.model.specs.Outcome.{Outcome, refuse, accepting}
-use Rattle.model.specs.Events.{Event, event}
-use Rattle.model.specs.File.{ofKind}
+use Rattle.model.specs.Outcome.{Outcome}
 use Rattle.network.specs.declared.record.Network.{Network}
 use Rattle.network.specs.declared.record.Moved.{Moved}
 use Rattle.network.specs.declared.record.Burst.{Burst}
+use Rattle.steps.specs.Call.{call}
 use Rattle.network.specs.View.{view}
-
-abbrev pub made : State → Option (ℕ → Event) → ℕ → Outcome
-made s none a = accepting s (refuse s answers.noSuch)
-made s (some make) a = event s (make a)
-
--- "each a kind and an argument"; a kind that is none is refused as what is not there, after 1 and 5
-unfoldable pub call : State → ℕ → ℕ → Outcome
-call s kind a = made s (ofKind kind) a
 
 -- the state after the first k calls of two lists
 unfoldable pub calls : State → List ℕ → List ℕ → ℕ → State

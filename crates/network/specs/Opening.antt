@@ -9,7 +9,7 @@ use Rattle.model.specs.Opening.{Opening, openFrom}
 use Rattle.network.specs.declared.record.Network.{Network}
 use Rattle.network.specs.declared.opening.Opened.{Opened}
 use Rattle.network.specs.View.{view}
-use Rattle.network.specs.Flight.{slots}
+use Rattle.arrays.specs.Flight.{slots}
 
 -- "A refused opening or header gives the record of one node, destination 0, no link, just opened": to its last entry
 unfoldable pub loneNetwork : Network

@@ -25,7 +25,8 @@ use Rattle.network.specs.declared.record.Burst.{Burst}
 use Rattle.network.specs.declared.opening.Opened.{Opened}
 use Rattle.network.specs.View.{view}
 use Rattle.network.specs.Opening.{OpenPost}
-use Rattle.network.specs.Calls.{call, CallPost, BurstPost}
+use Rattle.steps.specs.Call.{call}
+use Rattle.network.specs.Calls.{CallPost, BurstPost}
 
 -- the event of a call by kind; a kind that is none makes no event
 abbrev pub eventIf : Option (ℕ → Event) → ℕ → List Event

@@ -1,44 +1,10 @@
 -- What a reader sees of a record: the entries in use, and nothing past them.
-use Prim.Native.Nat.{ℕ, _+_, _-_, _*_, _<_}
-use mathlib.Core.Path.{_≡_}
-use mathlib.Core.Bool.{Bool, true, false, cond}
-use mathlib.Core.List.{List, []}
-use lib.Dec.{ltb, eqb}
-use lib.ListN.{getD}
-use Rattle.model.specs.Below.{first, tab}
-use Rattle.model.specs.State.{Net, Ends, Packet, Counts, State}
+use Prim.Native.Nat.{ℕ}
+use Rattle.model.specs.Below.{tab}
+use Rattle.model.specs.State.{State}
 use Rattle.network.specs.declared.record.Network.{Network}
-use Rattle.network.specs.declared.record.Tally.{Tally}
-
--- an array's first k entries; from there on the default
-unfoldable pub used {ℓ} : {A : Type ℓ} → ℕ → A → List A → ℕ → A
-used k d xs i = cond (ltb i k) (getD xs i d) d
-
-abbrev pub netOf : ℕ → ℕ → ℕ → List ℕ → Net
-netOf nodes destination links node =
-    record { nodes = nodes; destination = destination; links = links; node = used (2 * links) 0 node }
-
-abbrev pub endsOf : ℕ → List Bool → List Bool → List Bool → List Bool → Ends
-endsOf links out local remote mark =
-    record {
-      out = used (2 * links) false out;
-      local = used (2 * links) false local;
-      remote = used (2 * links) false remote;
-      mark = used (2 * links) false mark;
-    }
-
-abbrev pub packetAt : List ℕ → List ℕ → List Bool → ℕ → Packet
-packetAt number lane bit i = record { number = getD number i 0; lane = getD lane i 0; bit = getD bit i false }
-
-abbrev pub countsOf : Tally → Counts
-countsOf t =
-    record {
-      events = t .events;
-      admitted = t .admitted;
-      delivered = t .delivered;
-      lost = t .lost;
-      stranded = t .stranded;
-    }
+use Rattle.arrays.specs.declared.Tally.{Tally}
+use Rattle.arrays.specs.View.{netOf, endsOf, packetAt, countsOf, stateOf}
 
 abbrev pub tallyOf : Network → Tally
 tallyOf n =
@@ -51,38 +17,7 @@ tallyOf n =
       stranded = n .stranded;
     }
 
--- the arrays of a record, with its sizes and its tally
-abbrev pub stateOf : Net → List Bool → Ends → List ℕ → List Packet → Counts → State
-stateOf net live ends turns flight counts =
-    record {
-      net = net;
-      up = used (net .links) false live;
-      ends = ends;
-      turns = used (net .nodes) 0 turns;
-      flight = flight;
-      counts = counts;
-    }
-
--- the part of a state that a search over the ends reads
-abbrev pub endsSeen : ℕ → List ℕ → List Bool → List Bool → List Bool → List Bool → State
-endsSeen links node live out local mark =
-    stateOf (netOf 0 0 links node) live (endsOf links out local [] mark) [] []
-    (record { events = 0; admitted = 0; delivered = 0; lost = 0; stranded = 0 })
-
 abbrev pub view : Network → State
 view n =
     stateOf (netOf (n .nodes) (n .destination) (n .links) (n .node)) (n .live) (endsOf (n .links) (n .out) (n .local) (n .remote) (n .mark))
     (n .turns) (tab (packetAt (n .number) (n .lane) (n .bit)) (n .flying)) (countsOf (tallyOf n))
-
--- the first end of node v from end x on, or the number of ends
-abbrev pub endFrom : List ℕ → ℕ → ℕ → ℕ → ℕ
-endFrom node links v x = first (λ y. eqb (getD node y 0) v) x (2 * links - x)
-
--- the ends of node v in a chain: the first, and after each the next
-pub record Chain (links : ℕ) (node heads next : List ℕ) (v : ℕ) : Type 0 where
-  pub begins : getD heads v 0 ≡ endFrom node links v 0
-  pub goes : (x : ℕ) → x < 2 * links → getD node x 0 ≡ v → getD next x 0 ≡ endFrom node links v (x + 1)
-
--- ends name nodes
-abbrev pub Named : ℕ → ℕ → List ℕ → Type 0
-Named nodes links node = (x : ℕ) → x < 2 * links → getD node x 0 < nodes

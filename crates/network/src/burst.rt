@@ -1,19 +1,25 @@
 // Events one after the other, on the arrays of a record that was checked once.
-use crate::events::step;
-use crate::record::SLOTS;
-use crate::record::Step;
-use crate::record::Tally;
-use crate::record::index;
+use arrays::SLOTS;
+use arrays::Tally;
 use model::Handled;
 use model::Went;
+use steps::Step;
+use steps::step;
 ghost use mathlib.Core.Path.{_≡_};
 ghost use mathlib.Core.Bool.{Bool};
 ghost use mathlib.Core.List.{List};
 ghost use Prim.Native.Nat.{ℕ, _≤_, _<_};
 ghost use lib.ListN.{length, set};
 ghost use Rattle.model.specs.Formed.{wellFormed};
-ghost use Rattle.network.specs.Steps.{stateAt, Chained, Whole};
+ghost use Rattle.steps.specs.Steps.{stateAt, Chained, Whole};
 ghost use Rattle.network.specs.Calls.{calls, packetCode, wayCode, least, Lists};
+
+// An argument as an index.
+pub(crate) fn index(x: u32) -> usize
+    ensures { λ r. ⌜ r ≡ x ⌝ }
+{
+    x as usize
+}
 
 // The least number that no packet has stands for none.
 pub(crate) fn packet_code(h: Handled) -> u32

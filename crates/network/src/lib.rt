@@ -1,34 +1,22 @@
 // The network: its record, and every call that moves an arrow.
 mod burst;
-mod chain;
-mod deliver;
-mod depart;
-mod events;
-mod fail;
-mod flight;
-mod formed;
-mod lose;
 mod opening;
 mod record;
-mod search;
-mod send;
-mod tally;
-mod turn;
 
+use arrays::Tally;
+use arrays::formed;
 use burst::lesser;
 use burst::run;
-use chain::threads_if;
-pub use events::DELIVER;
-pub use events::FAIL;
-pub use events::LOSE;
-pub use events::SEND;
-use events::step;
 pub use opening::Opened;
 pub use record::Burst;
 pub use record::Moved;
 pub use record::Network;
-pub use record::SLOTS;
-pub use record::Tally;
+use steps::DELIVER;
+use steps::FAIL;
+use steps::LOSE;
+use steps::SEND;
+use steps::step;
+use steps::threads;
 ghost use mathlib.Core.Path.{_≡_};
 ghost use Rattle.model.specs.Formed.{wellFormed};
 ghost use Rattle.model.specs.Send.{sendTo};
@@ -37,7 +25,8 @@ ghost use Rattle.model.specs.Lose.{loseOn};
 ghost use Rattle.model.specs.Fail.{failOf};
 ghost use Rattle.network.specs.View.{view};
 ghost use Rattle.network.specs.Opening.{OpenPost};
-ghost use Rattle.network.specs.Calls.{call, CallPost, BurstPost};
+ghost use Rattle.steps.specs.Call.{call};
+ghost use Rattle.network.specs.Calls.{CallPost, BurstPost};
 
 impl Network {
     // "A record is well formed when .."
@@ -52,7 +41,7 @@ impl Network {
             lost: self.lost,
             stranded: self.stranded,
         };
-        formed::formed(
+        formed(
             &self.node,
             &self.live,
             &self.out,
@@ -79,7 +68,7 @@ impl Network {
             lost: self.lost,
             stranded: self.stranded,
         };
-        let sound = formed::formed(
+        let sound = formed(
             &self.node,
             &self.live,
             &self.out,
@@ -213,7 +202,7 @@ impl Network {
             lost: self.lost,
             stranded: self.stranded,
         };
-        let sound = formed::formed(
+        let sound = formed(
             &self.node,
             &self.live,
             &self.out,
@@ -233,9 +222,9 @@ impl Network {
                 lesser(answers.len(), lesser(packets.len(), ways.len())),
             ),
         );
-        let threads = threads_if(sound, &self.node, self.links);
-        let heads = threads.heads;
-        let next = threads.next;
+        let chains = threads(sound, &self.node, self.links);
+        let heads = chains.heads;
+        let next = chains.next;
         let mut live = self.live;
         let mut out = self.out;
         let mut local = self.local;

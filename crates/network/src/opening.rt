@@ -1,6 +1,6 @@
 // Opening: the tests of a list of node numbers, two a link, and the record that it fills.
 use crate::record::Network;
-use crate::record::SLOTS;
+use arrays::SLOTS;
 ghost use mathlib.Core.Path.{_≡_};
 ghost use mathlib.Core.Bool.{false, _&&_};
 ghost use Prim.Native.Nat.{ℕ, _*_, _/_, _%_, _≤_, _<_};

@@ -8,8 +8,9 @@ use lib.ListN.{length, getD}
 use denote.Ref.{now}
 use Rattle.model.specs.State.{State}
 use Rattle.model.specs.Formed.{wellFormed}
-use Rattle.network.specs.Steps.{stateAt, Whole}
-use Rattle.network.specs.Calls.{call, calls}
+use Rattle.steps.specs.Steps.{stateAt, Whole}
+use Rattle.steps.specs.Call.{call}
+use Rattle.network.specs.Calls.{calls}
 use Rattle.network.proofs.Bursts.{calls-keep, Ran, ran-none, ran-more}
 use borrow.Author.Needs.{needs}
 use Rattle.network.proofs.burst.run.Statement.{statement}

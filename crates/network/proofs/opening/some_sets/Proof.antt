@@ -5,7 +5,7 @@ use mathlib.Core.Bool.{false}
 use lib.ListN.{getD}
 use borrow.Author.Needs.{needs}
 use Rattle.model.specs.Below.{any}
-use Rattle.network.proofs.Loops.{any-none, any-more, any-end}
+use Rattle.arrays.proofs.Loops.{any-none, any-more, any-end}
 use Rattle.network.proofs.opening.some_sets.Statement.{statement}
 use Rattle.network.proofs.opening.some_sets.Tie as tie
 

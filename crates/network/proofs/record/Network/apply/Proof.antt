@@ -8,10 +8,10 @@ use Rattle.network.specs.declared.record.Network.{Network}
 use lib.ListN.{length}
 use denote.Ref.{now}
 use Rattle.network.specs.View.{view}
-use Rattle.network.specs.Steps.{stateAt, Whole}
-use Rattle.network.specs.Calls.{call}
-use Rattle.network.proofs.WellFormed.{of-view}
-use Rattle.network.proofs.Calls.{handed-back}
+use Rattle.steps.specs.Steps.{stateAt, Whole}
+use Rattle.steps.specs.Call.{call}
+use Rattle.network.proofs.Seen.{of-view}
+use Rattle.steps.proofs.Calls.{handed-back}
 use borrow.Author.Needs.{needs}
 use Rattle.network.proofs.record.Network.apply.Statement.{statement}
 use Rattle.network.proofs.record.Network.apply.Tie as tie

@@ -1,7 +1,7 @@
 -- A call by its kind. Assumes nothing.
 use mathlib.Core.Path.{sym, _∙_}
 use Rattle.network.specs.View.{view}
-use Rattle.network.proofs.Calls.{call-fail}
+use Rattle.steps.proofs.Calls.{call-fail}
 use borrow.Author.Needs.{needs}
 use Rattle.network.proofs.record.Network.fail.Statement.{statement}
 use Rattle.network.proofs.record.Network.fail.Tie as tie

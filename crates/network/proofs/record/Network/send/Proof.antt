@@ -1,7 +1,7 @@
 -- A call by its kind. Assumes nothing.
 use mathlib.Core.Path.{sym, _∙_}
 use Rattle.network.specs.View.{view}
-use Rattle.network.proofs.Calls.{call-send}
+use Rattle.steps.proofs.Calls.{call-send}
 use borrow.Author.Needs.{needs}
 use Rattle.network.proofs.record.Network.send.Statement.{statement}
 use Rattle.network.proofs.record.Network.send.Tie as tie

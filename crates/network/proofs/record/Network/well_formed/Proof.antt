@@ -1,6 +1,6 @@
 -- The check on references to the fields; it reads no bit. Assumes nothing.
 use borrow.Author.Needs.{needs}
-use Rattle.network.proofs.WellFormed.{of-view}
+use Rattle.network.proofs.Seen.{of-view}
 use Rattle.network.proofs.record.Network.well_formed.Statement.{statement}
 use Rattle.network.proofs.record.Network.well_formed.Tie as tie
 

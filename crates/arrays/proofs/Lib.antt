@@ -1,0 +1,3 @@
+pub mod Below
+pub mod Loops
+pub mod WellFormed

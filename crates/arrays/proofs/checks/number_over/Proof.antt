@@ -1,0 +1,55 @@
+-- Some packet so far has a number that is not below admitted, or none. Assumes nothing.
+use Prim.Native.Nat.{_≤_, _-_}
+use mathlib.Core.Path.{_≡_}
+use lib.Dec.{leb}
+use lib.ListN.{getD}
+use borrow.Author.Needs.{needs}
+use Rattle.model.specs.Below.{any}
+use Rattle.arrays.proofs.Loops.{any-none, any-more, any-end}
+use Rattle.arrays.proofs.checks.number_over.Statement.{statement}
+use Rattle.arrays.proofs.checks.number_over.Tie as tie
+
+abbrev Inv-loop : tie.InvT-loop
+Inv-loop number flying admitted bad₀ i₀ bad i = (i ≤ flying) × (bad ≡ any (λ j. leb admitted (getD number j 0)) i)
+
+abbrev μ-loop : tie.MeasureT-loop
+μ-loop number flying admitted bad₀ i₀ bad i = flying - i
+
+loop-holds : tie.Need-loop-holds Inv-loop μ-loop
+loop-holds c = (search needs, any-none _)
+
+mul-bad : tie.Need-mul-bad Inv-loop μ-loop
+mul-bad c = search needs
+
+element-copy-out-bad : tie.Need-element-copy-out-bad Inv-loop μ-loop
+element-copy-out-bad c = search needs
+
+add-i : tie.Need-add-i Inv-loop μ-loop
+add-i c = search needs
+
+loop-less : tie.Need-loop-less Inv-loop μ-loop
+loop-less c = search needs
+
+loop-again : tie.Need-loop-again Inv-loop μ-loop
+loop-again c =
+    let h = c .before .before .loop in
+    (search needs, any-more _ (h .i) (h .inv .1))
+
+returns : tie.Need-returns Inv-loop μ-loop
+returns c =
+    let h = c .before .loop in
+    any-end _ (h .i) (c .before .before .args .flying) (h .inv .1) (h .inv .0) (c .loop-test .left)
+
+pub number-over-spec : {M : Type 1} → statement M
+number-over-spec =
+    tie.close
+    (tie.spec
+    Inv-loop
+    μ-loop
+    loop-holds
+    mul-bad
+    element-copy-out-bad
+    add-i
+    loop-less
+    loop-again
+    returns)

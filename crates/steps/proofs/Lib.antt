@@ -1,0 +1,15 @@
+pub mod Searches
+pub mod Ends
+pub mod Chains
+pub mod Patches
+pub mod Turns
+pub mod Flights
+pub mod Packets
+pub mod Ways
+pub mod Tallies
+pub mod Sounds
+pub mod Sends
+pub mod OffLanes
+pub mod Cuts
+pub mod Deliveries
+pub mod Calls

@@ -1,0 +1,126 @@
+-- A turn, a way out and a departure, from what the arrays show. Assumes nothing.
+use Prim.Native.Nat.{ℕ, zero, suc, _+_, _*_, _≤_, _<_}
+use native.Mathlib.Omega.{arith}
+use native.Mathlib.Numerals.{add-one}
+use mathlib.Core.Path.{_≡_, refl, sym, ap, _∙_}
+use mathlib.Core.Logic.{_⊎_, inl, inr}
+use mathlib.Core.Bool.{Bool, true, false, cond}
+use mathlib.Core.List.{List, [], _∷_, _++_}
+use lib.Dec.{ltb, eqb}
+use lib.ListN.{length, getD, set, length-set}
+use lib.Seq.{getD-set-same, getD-set-other}
+use borrow.Author.Tests.{ltb-true, ltb-false, lt-ltb, le-ltb, eqb-true, eqb-false, ne-eqb}
+use Rattle.model.specs.declared.Went.the-variants as went
+use Rattle.model.specs.Limits.{nodesMost, linksMost}
+use Rattle.model.specs.Below.{any, first}
+use Rattle.model.specs.State.{State, Packet, Net, Ends, Counts, lanes, live}
+use Rattle.model.specs.Departure.{outAt, outLink, outEnd, hasLive, hasOut, hasMark, turn, update, door, pass}
+use Rattle.model.specs.Outcome.{gives, leaves, leavesBy, onward}
+use Rattle.model.proofs.Departure.{update-out}
+use Rattle.model.proofs.Below.{look, clash, any-here, any-found, any-false}
+use Rattle.arrays.specs.declared.Tally.{Tally}
+use Rattle.arrays.specs.View.{used, netOf, endsOf, countsOf, stateOf, endsSeen}
+use Rattle.steps.specs.Turned.{Turned}
+use Rattle.arrays.specs.Flight.{packets}
+use Rattle.steps.specs.Steps.{stateAt}
+use Rattle.steps.proofs.Searches.{used-in, used-out, first-most, first-by-links}
+use Rattle.steps.proofs.Chains.{first-hit}
+use Rattle.steps.proofs.Turns.{used-is}
+
+-- ---- a node has a way out exactly if the search finds one
+first-found : (p : ℕ → Bool) (n : ℕ) → any p n ≡ true → first p 0 n < n
+first-found p n e = go (look (ltb (first p 0 n) n))
+  where
+    go : (ltb (first p 0 n) n ≡ true) ⊎ (ltb (first p 0 n) n ≡ false) → first p 0 n < n
+    go (inl t) = ltb-true (first p 0 n) n t
+    go (inr t) =
+        let f = any-found p n e in
+        absurd (clash (f .2) (passed n 0 (f .0) (omega (arith, ltb-false (first p 0 n) n t)) (omega arith) (omega (arith, f .1))))
+      where
+        passed : (k i j : ℕ) → i + k ≤ first p i k → i ≤ j → j < i + k → p j ≡ false
+        passed = Rattle.model.proofs.Below.first-none p
+
+module _ (s : State) (v : ℕ) where
+  abbrev found : ℕ
+  found = first (outAt s v) 0 (lanes s)
+
+  pub way-in : hasOut s v ≡ true → found < lanes s
+  unfolding hasOut
+  way-in e = first-found (outAt s v) (lanes s) e
+
+  pub has-way : found < lanes s → hasOut s v ≡ true
+  unfolding hasOut
+  has-way h = any-here (outAt s v) (lanes s) found h (first-hit (outAt s v) (lanes s) 0 (omega arith))
+
+  pub no-way : lanes s ≤ found → hasOut s v ≡ false
+  no-way h = elim (look (hasOut s v)) [ inl e ↦ absurd (omega (arith, way-in e)) | inr e ↦ e ]
+
+  by-links : found
+      ≡ cond (ltb (first (outLink s v) 0 (s .net .links)) (0 + s .net .links)) (outEnd s v (first (outLink s v) 0 (s .net .links))) (2 * (0 + s .net .links))
+  by-links = first-by-links (outAt s v) (s .net .links) 0
+
+  pub way-door : found < lanes s → found ≡ door s v
+  unfolding door
+  way-door h = elim (look (ltb (first (outLink s v) 0 (s .net .links)) (0 + s .net .links))) [
+    | inl e ↦ by-links ∙ rw e
+    | inr e ↦ absurd (omega (arith, rw e at by-links))
+  ]
+
+-- ---- a packet leaves
+pub leave-is : (net : Net) (live : List Bool) (ends : Ends) (turns : List ℕ) (flight flight′ : List Packet) (counts : Counts) (x n : ℕ) (b : Bool)
+    → ends .local x ≡ b → flight′ ≡ flight ++ (record { number = n; lane = x; bit = b } ∷ [])
+    → gives (stateOf net live ends turns flight′ counts) n (went.Lane x) ≡ leaves (stateOf net live ends turns flight counts) x n
+unfolding pass
+leave-is net live ends turns flight flight′ counts x n b e q = rw (e, q)
+
+-- by the way out that was found
+pub leaves-by : {s t : State} (v x n : ℕ) → s ≡ t → hasOut s v ≡ true → x ≡ first (outAt s v) 0 (lanes s) → leaves s x n ≡ leavesBy t v n
+leaves-by {s} v x n e o q = ap (λ y. leaves s y n) (q ∙ way-door s v (way-in s v o)) ∙ ap (λ r. leavesBy r v n) e
+
+-- ---- a node turns
+pub turns-kept : (turns turns′ : List ℕ) (v t n : ℕ) → turns′ ≡ set turns v t → length turns ≡ n → length turns′ ≡ n
+turns-kept turns turns′ v t n e h = ap length e ∙ length-set turns v t ∙ h
+
+pub turn-is : (node : List ℕ) (live out local remote mark : List Bool) (turns number lane : List ℕ) (bit : List Bool) (nodes destination links : ℕ) (t : Tally) (v : ℕ)
+    {out′ local′ mark′ : List Bool} {turns′ : List ℕ} → Turned (endsSeen links node live out local mark) v out′ local′ mark′
+    → turns′ ≡ set turns v (getD turns v 0 + 1) → v < nodes → nodes ≤ length turns
+    → stateAt node live out′ local′ remote mark′ turns′ number lane bit nodes destination links t
+    ≡ turn (stateAt node live out local remote mark turns number lane bit nodes destination links t) v
+unfolding turn hasMark
+turn-is node live out local remote mark turns number lane bit nodes destination links t v w e h l =
+    λ i.
+    record {
+      net = netOf nodes destination links node;
+      up = used links false live;
+      ends = record { out = w .out i; local = w .local i; remote = used (2 * links) false remote; mark = w .mark i };
+      turns = (ap (used nodes 0) e ∙ counted) i;
+      flight = packets number lane bit (t .flying);
+      counts = countsOf t;
+    }
+  where
+    counted : used nodes 0 (set turns v (getD turns v 0 + 1)) ≡ (λ u. cond (eqb u v) (suc (used nodes 0 turns u)) (used nodes 0 turns u))
+    counted =
+        used-is nodes 0 (set turns v (getD turns v 0 + 1)) _
+        (λ u k. rw (used-in nodes 0 turns u k) (go u (look (eqb u v))))
+        (λ u k. rw (used-out nodes 0 turns u k, ne-eqb u v (λ e. omega arith)))
+      where
+        go : (u : ℕ) → (eqb u v ≡ true) ⊎ (eqb u v ≡ false)
+            → getD (set turns v (getD turns v 0 + 1)) u 0 ≡ cond (eqb u v) (suc (getD turns u 0)) (getD turns u 0)
+        go u (inl e) = rw (e, eqb-true u v e) (getD-set-same turns v (getD turns v 0 + 1) 0 (omega arith) ∙ add-one (getD turns v 0))
+        go u (inr e) = rw e (getD-set-other turns v u (getD turns v 0 + 1) 0 (eqb-false u v e))
+
+-- ---- an update, and out
+pub onward-by : (s : State) (v x n : ℕ) → x ≡ first (outAt s v) 0 (lanes s) → x < lanes s → leaves s x n ≡ onward s v n
+unfolding onward update
+onward-by s v x n e h =
+    let o : hasOut s v ≡ true = has-way s v (rw e at h) in
+    rw o (leaves-by {s = s} {t = s} v x n refl o e)
+
+pub onward-turned : (s : State) (v n : ℕ) → hasOut s v ≡ false → leavesBy (turn s v) v n ≡ onward s v n
+unfolding onward update
+onward-turned s v n e = rw e
+
+pub turn-finds : (s : State) (v : ℕ) → ((x : ℕ) → x < lanes s → s .ends .mark x ≡ true → live s x ≡ true) → hasLive s v ≡ true → hasOut s v ≡ false
+    → hasOut (turn s v) v ≡ true
+unfolding update
+turn-finds s v m l o = rw o at (update-out s v m l)

@@ -1,0 +1,4 @@
+pub mod Turned
+pub mod Moves
+pub mod Steps
+pub mod Call

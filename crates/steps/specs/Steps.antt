@@ -1,0 +1,71 @@
+-- An event on the arrays of a record: the state that they show, and what is asked of them.
+use Prim.Native.Nat.{ℕ, _+_, _*_, _/_, _<_, _≤_}
+use mathlib.Core.Path.{_≡_}
+use mathlib.Core.Bool.{Bool, true, false, cond}
+use mathlib.Core.List.{List}
+use lib.Dec.{eqb}
+use lib.ListN.{length, getD}
+use Rattle.model.specs.Limits.{nodesMost, linksMost, endsMost, eventsMost}
+use Rattle.model.specs.State.{State}
+use Rattle.model.specs.declared.Went.the-variants as went
+use Rattle.model.specs.Outcome.{Outcome, counted, gives, leaves, onward}
+use Rattle.arrays.specs.declared.Tally.{Tally}
+use Rattle.steps.specs.declared.tally.Step.{Step}
+use Rattle.arrays.specs.View.{netOf, endsOf, countsOf, stateOf, Chain}
+use Rattle.steps.specs.Turned.{Long}
+use Rattle.arrays.specs.Flight.{Slots, packets}
+
+abbrev pub stateAt : List ℕ → List Bool → List Bool → List Bool → List Bool → List Bool → List ℕ → List ℕ → List ℕ → List Bool → ℕ → ℕ → ℕ → Tally → State
+stateAt node live out local remote mark turns number lane bit nodes destination links t =
+    stateOf (netOf nodes destination links node) live (endsOf links out local remote mark) turns (packets number lane bit (t .flying)) (countsOf t)
+
+-- what a step gives, beside the state that it leaves
+abbrev pub outcomeOf : State → Step → Outcome
+outcomeOf s r = record { state = s; answer = r .answer; handled = r .handled; went = r .went }
+
+-- every array that a packet's way can change has its full length
+pub record Room (out local mark : List Bool) (turns number lane : List ℕ) (bit : List Bool) : Type 0 where
+  pub long : Long out local mark
+  pub turns-long : length turns ≡ nodesMost
+  pub room : Slots number lane bit
+
+-- and so has every array that any event can change
+pub record Whole (live out local remote mark : List Bool) (turns number lane : List ℕ) (bit : List Bool) : Type 0 where
+  pub live-long : length live ≡ linksMost
+  pub remote-long : length remote ≡ endsMost
+  pub more : Room out local mark turns number lane bit
+
+-- where the chains are used they are right
+abbrev pub Chained : Bool → ℕ → List ℕ → List ℕ → List ℕ → Type 0
+Chained chained links node heads next = chained ≡ true → (v : ℕ) → v < nodesMost → Chain links node heads next v
+
+-- marked ends are on live links
+abbrev pub MarksLive : ℕ → List Bool → List Bool → Type 0
+MarksLive links live mark = (x : ℕ) → x < 2 * links → getD mark x false ≡ true → getD live (x / 2) false ≡ true
+
+-- counts that have room for an event more
+pub record Fair (t : Tally) : Type 0 where
+  pub events : t .events < eventsMost
+  pub admitted : t .admitted < eventsMost
+  pub delivered : t .delivered ≤ eventsMost
+  pub lost : t .lost ≤ eventsMost
+  pub stranded : t .stranded ≤ eventsMost
+
+-- an event more, with so many packets in flight
+abbrev pub tallied : Tally → ℕ → ℕ → ℕ → ℕ → ℕ → Tally
+tallied t flying admitted delivered lost stranded =
+    record {
+      flying = flying;
+      events = t .events + 1;
+      admitted = t .admitted + admitted;
+      delivered = t .delivered + delivered;
+      lost = t .lost + lost;
+      stranded = t .stranded + stranded;
+    }
+
+-- a packet at node v, taken from its lane: steps 3 and 5 of a delivery, and steps 3 and 4
+abbrev pub landed : State → ℕ → ℕ → Outcome
+landed s v n = cond (eqb v (s .net .destination)) (gives (counted s 0 1 0 0) n went.Delivered) (onward (counted s 0 0 0 0) v n)
+
+abbrev pub bounced : State → ℕ → ℕ → ℕ → Outcome
+bounced s v x n = cond (eqb v (s .net .destination)) (gives (counted s 0 1 0 0) n went.Delivered) (leaves (counted s 0 0 0 0) x n)
