@@ -2,6 +2,7 @@
 mod build;
 mod draw;
 mod drawn;
+mod file;
 mod limit;
 mod line;
 mod number;
@@ -10,6 +11,7 @@ mod records;
 mod rows;
 mod spoil;
 mod sum;
+mod writings;
 
 const SEED: usize = 1;
 
@@ -18,6 +20,8 @@ fn main() {
     openings::part(&mut opening);
     let mut record = draw::start(SEED, 1);
     records::part(&mut record);
+    let mut writing = draw::start(SEED, 2);
+    writings::part(&mut writing);
     let mut last = draw::start(SEED, 4);
     limit::part(&mut last);
 }

@@ -12,6 +12,13 @@ pub(crate) fn plus(a: usize, b: usize) -> usize {
     a % TOP + b % TOP
 }
 
+pub(crate) fn less(a: usize, b: usize) -> usize {
+    if a < b {
+        return 0;
+    }
+    a - b
+}
+
 pub(crate) fn less_one(a: usize) -> usize {
     if a == 0 {
         return 0;
@@ -61,12 +68,20 @@ pub(crate) fn wide16(a: u16) -> usize {
     a as usize
 }
 
+pub(crate) fn wide8(a: u8) -> usize {
+    a as usize
+}
+
 pub(crate) fn narrow(a: usize) -> u32 {
     (a % TOP) as u32
 }
 
 pub(crate) fn narrow16(a: usize) -> u16 {
     (a % 65_536) as u16
+}
+
+pub(crate) fn narrow8(a: usize) -> u8 {
+    (a % 256) as u8
 }
 
 // The sums that stay in 32 bits.

@@ -1,7 +1,8 @@
-// The checksum of a record.
+// The checksum of a record, and of bytes.
 use crate::number::bit;
 use crate::number::least;
 use crate::number::wide;
+use crate::number::wide8;
 use crate::number::wide16;
 use arrays::SLOTS;
 use network::Network;
@@ -116,4 +117,14 @@ pub(crate) fn of_record(r: Network) -> usize {
     );
     let c = of_turns(b, &r.turns, r.nodes);
     of_packets(c, &r.number, &r.lane, &r.bit, r.flying)
+}
+
+pub(crate) fn of_bytes(bytes: &[u8]) -> usize {
+    let mut sum: usize = 1;
+    let mut i: usize = 0;
+    while i < bytes.len() {
+        sum = add(sum, wide8(bytes[i]));
+        i += 1;
+    }
+    sum
 }
