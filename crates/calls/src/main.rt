@@ -1,12 +1,16 @@
 // The calls of docs/CALLS.md, made from one seed; each part starts its own generator.
+mod bounds;
 mod build;
 mod draw;
 mod drawn;
 mod file;
+mod headers;
 mod limit;
 mod line;
 mod number;
 mod openings;
+mod read;
+mod readings;
 mod records;
 mod rows;
 mod spoil;
@@ -22,6 +26,8 @@ fn main() {
     records::part(&mut record);
     let mut writing = draw::start(SEED, 2);
     writings::part(&mut writing);
+    let mut reading = draw::start(SEED, 3);
+    readings::part(&mut reading);
     let mut last = draw::start(SEED, 4);
     limit::part(&mut last);
 }
