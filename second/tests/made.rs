@@ -71,7 +71,7 @@ fn texts_have_one_space_and_whole_lines() {
 #[test]
 fn parts_of_the_calls_are_the_whole() {
     for seed in [0, 1, 4_294_967_295] {
-        let parts: String = ["open", "records", "writings", "readings", "limit"]
+        let parts: String = ["open", "records", "writings", "readings", "drills", "limit"]
             .iter()
             .map(|part| calls::lines(seed, Some(part)).unwrap())
             .collect();
@@ -84,7 +84,7 @@ fn parts_of_the_calls_are_the_whole() {
 #[test]
 fn calls_of_many_seeds_end() {
     for seed in 2..100 {
-        for part in ["open", "records", "writings", "readings"] {
+        for part in ["open", "records", "writings", "readings", "drills"] {
             assert!(calls::lines(seed, Some(part)).is_some());
         }
     }

@@ -1,6 +1,7 @@
 //! Calls that no drill file can make, one line each. The rule is in
 //! docs/CALLS.md; another program follows it and must write the same lines.
 
+mod drills;
 mod limit;
 mod openings;
 mod readings;
@@ -19,12 +20,14 @@ const FAR: u32 = 65_535;
 
 type Part = fn(&mut Random, &mut String);
 
-const PARTS: [(&str, Part); 5] = [
-    ("open", openings::part),
-    ("records", records::part),
-    ("writings", writings::part),
-    ("readings", readings::part),
-    ("limit", limit::part),
+/// Each part in order, with the number that its generator starts from.
+const PARTS: [(&str, u64, Part); 6] = [
+    ("open", 0, openings::part),
+    ("records", 1, records::part),
+    ("writings", 2, writings::part),
+    ("readings", 3, readings::part),
+    ("drills", 5, drills::part),
+    ("limit", 4, limit::part),
 ];
 
 /// The lines of one part, or of all in order. Each part starts its own
@@ -32,10 +35,9 @@ const PARTS: [(&str, Part); 5] = [
 pub fn lines(seed: u32, only: Option<&str>) -> Option<String> {
     let mut text = String::new();
     let mut found = false;
-    for (number, (name, part)) in PARTS.iter().enumerate() {
-        if only.is_none_or(|wanted| wanted == *name) {
-            let start = u64::from(seed) * PARTS.len() as u64 + number as u64;
-            part(&mut Random::new(start), &mut text);
+    for (name, number, part) in PARTS {
+        if only.is_none_or(|wanted| wanted == name) {
+            part(&mut Random::new(u64::from(seed) * 5 + number), &mut text);
             found = true;
         }
     }

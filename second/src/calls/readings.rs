@@ -97,14 +97,18 @@ fn good_events(random: &mut Random) -> Vec<u8> {
     let mut bytes = Vec::new();
     for _ in 0..8 {
         number::push(&mut bytes, 1 + random.draw(4));
-        let argument = match random.draw(3) {
-            0 => random.draw(128),
-            1 => 128 + random.draw(16_256),
-            _ => 16_384 + random.draw(2_080_768),
-        };
-        number::push(&mut bytes, argument);
+        number::push(&mut bytes, argument(random));
     }
     bytes
+}
+
+/// An argument of one, two or three bytes.
+pub fn argument(random: &mut Random) -> u32 {
+    match random.draw(3) {
+        0 => random.draw(128),
+        1 => 128 + random.draw(16_256),
+        _ => 16_384 + random.draw(2_080_768),
+    }
 }
 
 /// Loose bytes, a good header, an event; then trouble; then six readings.
@@ -166,7 +170,7 @@ fn fixed_headers(text: &mut String) {
     }
 }
 
-fn file_line(bytes: &[u8], text: &mut String) {
+pub fn file_line(bytes: &[u8], text: &mut String) {
     let (length, sum) = (bytes.len(), sum::of_bytes(bytes));
     text.push_str(&format!("b {length} {sum}\n"));
 }
@@ -179,7 +183,7 @@ fn number_line(bytes: &[u8], position: u32, text: &mut String) {
     text.push_str(&format!("n {position} {words}\n"));
 }
 
-fn event_line(bytes: &[u8], position: u32, text: &mut String) {
+pub fn event_line(bytes: &[u8], position: u32, text: &mut String) {
     let words = match read_event(bytes, position as usize) {
         Reading::End => "0 0 - - -".to_string(),
         Reading::Spoilt { place } => format!("11 {place} - - -"),
@@ -191,7 +195,7 @@ fn event_line(bytes: &[u8], position: u32, text: &mut String) {
     text.push_str(&format!("e {position} {words}\n"));
 }
 
-fn header_line(bytes: &[u8], position: u32, text: &mut String) {
+pub fn header_line(bytes: &[u8], position: u32, text: &mut String) {
     let header = read_header(bytes, position as usize);
     let next = header.next.map_or("-".to_string(), |next| next.to_string());
     text.push_str(&format!(

@@ -2,7 +2,7 @@
 
 use crate::calls::openings::{drawn, of_row, Case, ROWS};
 use crate::calls::{sum, HUGE};
-use crate::file::{write_event, write_header};
+use crate::file::{write_event, write_header, Written};
 use crate::random::Random;
 
 const KINDS: [u32; 7] = [0, 1, 2, 3, 4, 5, HUGE];
@@ -54,32 +54,44 @@ pub fn part(random: &mut Random, text: &mut String) {
 }
 
 /// The part lent: no byte is the same as its neighbours.
-fn lent_part(length: u32) -> Vec<u8> {
+pub fn lent_part(length: u32) -> Vec<u8> {
     (0..length).map(|i| ((37 * i + 11) % 256) as u8).collect()
 }
 
 fn event_line(kind: u32, argument: u32, lent: u32, text: &mut String) {
-    let mut part = lent_part(lent);
-    let written = write_event(kind, argument, &mut part);
-    text.push_str(&format!(
-        "w {kind} {argument} {lent} {} {} {}\n",
-        written.answer,
-        written.count,
-        sum::of_bytes(&part)
-    ));
+    event_into(&mut lent_part(lent), kind, argument, text);
 }
 
 fn header_line(case: &Case, lent: u32, text: &mut String) {
-    let mut part = lent_part(lent);
-    let written = write_header(case.nodes, case.destination, &case.list, &mut part);
+    header_into(&mut lent_part(lent), case, text);
+}
+
+/// Writes an event into a part, and its line.
+pub fn event_into(part: &mut [u8], kind: u32, argument: u32, text: &mut String) -> Written {
+    let written = write_event(kind, argument, part);
     text.push_str(&format!(
-        "h {} {} {} {lent} {} {} {} {}\n",
+        "w {kind} {argument} {} {} {} {}\n",
+        part.len(),
+        written.answer,
+        written.count,
+        sum::of_bytes(part)
+    ));
+    written
+}
+
+/// Writes a header into a part, and its line.
+pub fn header_into(part: &mut [u8], case: &Case, text: &mut String) -> Written {
+    let written = write_header(case.nodes, case.destination, &case.list, part);
+    text.push_str(&format!(
+        "h {} {} {} {} {} {} {} {}\n",
         case.nodes,
         case.destination,
         case.list.len(),
+        part.len(),
         written.answer,
         written.place,
         written.count,
-        sum::of_bytes(&part)
+        sum::of_bytes(part)
     ));
+    written
 }
