@@ -5,7 +5,7 @@ const MODULUS: usize = 2_147_483_647;
 
 // Where a part starts.
 pub(crate) fn start(seed: usize, part: usize) -> usize {
-    (seed % 4_294_967_296 * 5 + part % 5) % (MODULUS - 1) + 1
+    (seed % 4_294_967_296 * 5 + part % 6) % (MODULUS - 1) + 1
 }
 
 // The next number, taken below n; 0 where n is 0.

@@ -3,6 +3,7 @@ mod bounds;
 mod build;
 mod draw;
 mod drawn;
+mod drills;
 mod file;
 mod headers;
 mod limit;
@@ -28,6 +29,8 @@ fn main() {
     writings::part(&mut writing);
     let mut reading = draw::start(SEED, 3);
     readings::part(&mut reading);
+    let mut drill = draw::start(SEED, 5);
+    drills::part(&mut drill);
     let mut last = draw::start(SEED, 4);
     limit::part(&mut last);
 }
