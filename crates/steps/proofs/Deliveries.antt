@@ -19,8 +19,8 @@ use Rattle.model.specs.Deliver.{news, arrives}
 use Rattle.model.proofs.Below.{look, any-here}
 use Rattle.arrays.specs.View.{used, endsOf, stateOf}
 use Rattle.steps.specs.Steps.{landed, bounced}
-use Rattle.steps.proofs.Searches.{used-in, used-out}
-use Rattle.steps.proofs.Turns.{used-is}
+use Rattle.moves.proofs.Searches.{used-in, used-out}
+use Rattle.moves.proofs.Turns.{used-is}
 
 pub fresh-is : (p q : Bool) → (p && not q || not p && q) ≡ xor p q
 unfolding xor

@@ -1,10 +1,3 @@
-pub mod Searches
-pub mod Ends
-pub mod Chains
-pub mod Patches
-pub mod Turns
-pub mod Flights
-pub mod Packets
 pub mod Ways
 pub mod Tallies
 pub mod Sounds

@@ -18,9 +18,9 @@ use Rattle.model.specs.Lanes.{onLane, less, taken, withOldest, offLane}
 use Rattle.model.proofs.Ends.{live-whole}
 use Rattle.arrays.specs.View.{used, stateOf, packetAt}
 use Rattle.arrays.specs.Flight.{Slots, packets}
-use Rattle.steps.specs.Moves.{Removed}
-use Rattle.steps.proofs.Searches.{first-most}
-use Rattle.steps.proofs.Packets.{lane-empty, lane-oldest, taken-out}
+use Rattle.moves.specs.Moves.{Removed}
+use Rattle.moves.proofs.Searches.{first-most}
+use Rattle.moves.proofs.Packets.{lane-empty, lane-oldest, taken-out}
 
 module _ (s : State) (x : ℕ) (f : Packet → Outcome) (formed : wellFormed s ≡ true) (room : s .counts .events < eventsMost) where
   pub off-no-such : lanes s ≤ x → refuse s answers.noSuch ≡ offLane s x f

@@ -17,8 +17,8 @@ use Rattle.model.proofs.Formed.{Formed, formed-if, if-formed}
 use Rattle.arrays.specs.declared.Tally.{Tally}
 use Rattle.arrays.specs.View.{used, packetAt}
 use Rattle.steps.specs.Steps.{stateAt, MarksLive, Fair}
-use Rattle.steps.proofs.Searches.{used-in}
-use Rattle.steps.proofs.Packets.{tab-length}
+use Rattle.moves.proofs.Searches.{used-in}
+use Rattle.moves.proofs.Packets.{tab-length}
 
 pub record Sizes (nodes destination links : ℕ) : Type 0 where
   pub nodes-most : nodes ≤ nodesMost

@@ -20,12 +20,12 @@ use Rattle.model.proofs.Departure.{update-out}
 use Rattle.model.proofs.Below.{look, clash, any-here, any-found, any-false}
 use Rattle.arrays.specs.declared.Tally.{Tally}
 use Rattle.arrays.specs.View.{used, netOf, endsOf, countsOf, stateOf, endsSeen}
-use Rattle.steps.specs.Turned.{Turned}
+use Rattle.moves.specs.Turned.{Turned}
 use Rattle.arrays.specs.Flight.{packets}
 use Rattle.steps.specs.Steps.{stateAt}
-use Rattle.steps.proofs.Searches.{used-in, used-out, first-most, first-by-links}
-use Rattle.steps.proofs.Chains.{first-hit}
-use Rattle.steps.proofs.Turns.{used-is}
+use Rattle.moves.proofs.Searches.{used-in, used-out, first-most, first-by-links}
+use Rattle.moves.proofs.Chains.{first-hit}
+use Rattle.moves.proofs.Turns.{used-is}
 
 -- ---- a node has a way out exactly if the search finds one
 first-found : (p : ℕ → Bool) (n : ℕ) → any p n ≡ true → first p 0 n < n

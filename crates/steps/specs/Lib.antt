@@ -1,4 +1,2 @@
-pub mod Turned
-pub mod Moves
 pub mod Steps
 pub mod Call

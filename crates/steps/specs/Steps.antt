@@ -12,7 +12,7 @@ use Rattle.model.specs.Outcome.{Outcome, counted, gives, leaves, onward}
 use Rattle.arrays.specs.declared.Tally.{Tally}
 use Rattle.steps.specs.declared.tally.Step.{Step}
 use Rattle.arrays.specs.View.{netOf, endsOf, countsOf, stateOf, Chain}
-use Rattle.steps.specs.Turned.{Long}
+use Rattle.moves.specs.Turned.{Long}
 use Rattle.arrays.specs.Flight.{Slots, packets}
 
 abbrev pub stateAt : List ℕ → List Bool → List Bool → List Bool → List Bool → List Bool → List ℕ → List ℕ → List ℕ → List Bool → ℕ → ℕ → ℕ → Tally → State

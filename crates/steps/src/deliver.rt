@@ -1,10 +1,6 @@
 // Deliver the oldest packet of a lane.
 use crate::depart::leave;
 use crate::depart::onward;
-use crate::flight::take_out;
-use crate::number::other;
-use crate::number::wide;
-use crate::search::oldest;
 use crate::tally::Step;
 use crate::tally::bare;
 use crate::tally::counted;
@@ -12,6 +8,10 @@ use crate::tally::done;
 use arrays::SLOTS;
 use arrays::Tally;
 use model::Went;
+use moves::oldest;
+use moves::other;
+use moves::take_out;
+use moves::wide;
 ghost use mathlib.Core.Path.{_≡_};
 ghost use mathlib.Core.Bool.{Bool, true, false, not};
 ghost use mathlib.Core.List.{List, []};

@@ -1,12 +1,12 @@
 // A packet leaves: by an end that is known, or by the lowest after a turn.
-use crate::chain::way;
-use crate::flight::put;
 use crate::tally::Step;
-use crate::turn::turn;
 use arrays::SLOTS;
 use arrays::Tally;
 use model::Handled;
 use model::Went;
+use moves::put;
+use moves::turn;
+use moves::way;
 ghost use mathlib.Core.Path.{_≡_};
 ghost use mathlib.Core.Bool.{Bool, true, false};
 ghost use mathlib.Core.List.{List, []};

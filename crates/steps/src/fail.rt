@@ -1,10 +1,10 @@
 // Fail a link.
-use crate::flight::keep_off;
 use crate::tally::Step;
 use crate::tally::bare;
 use crate::tally::counted;
 use arrays::SLOTS;
 use arrays::Tally;
+use moves::keep_off;
 ghost use mathlib.Core.Path.{_≡_};
 ghost use mathlib.Core.Bool.{Bool, true};
 ghost use mathlib.Core.List.{List};

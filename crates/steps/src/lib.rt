@@ -1,20 +1,13 @@
 // One event on the arrays of a record that was checked: the part that moves arrows.
-mod chain;
 mod deliver;
 mod depart;
 mod fail;
-mod flight;
 mod lose;
-mod number;
-mod search;
 mod send;
 mod tally;
-mod turn;
 
 use arrays::SLOTS;
 use arrays::Tally;
-pub use chain::Threads;
-use chain::thread;
 use deliver::deliver_step;
 use fail::fail_step;
 use lose::lose_step;
@@ -24,11 +17,9 @@ use tally::bare;
 ghost use mathlib.Core.Path.{_≡_};
 ghost use mathlib.Core.Bool.{Bool, true};
 ghost use mathlib.Core.List.{List};
-ghost use Prim.Native.Nat.{ℕ, _≤_, _<_};
+ghost use Prim.Native.Nat.{ℕ};
 ghost use lib.ListN.{length};
-ghost use Rattle.model.specs.Limits.{nodesMost, linksMost};
 ghost use Rattle.model.specs.Formed.{wellFormed};
-ghost use Rattle.arrays.specs.View.{Chain, Named};
 ghost use Rattle.steps.specs.Steps.{stateAt, outcomeOf, Whole, Chained};
 ghost use Rattle.steps.specs.Call.{call};
 
@@ -122,18 +113,4 @@ pub fn step<'a>(
         return fail_step(live, mark, number, lane, bit, links, tally, argument);
     }
     bare(tally, 6)
-}
-
-// The chains of a record that was found sound; else none, and nobody asks for one.
-pub fn threads(sound: bool, node: &[u16; model::ENDS], links: usize) -> Threads
-    requires { ⌜ (sound ≡ true → (links ≤ linksMost) × Named nodesMost links (now node)) ⌝ }
-    ensures { λ r. ⌜ (sound ≡ true → (v : ℕ) → v < nodesMost → Chain links (now (node .entry)) (r .heads) (r .next) v) ⌝ }
-{
-    if sound {
-        return thread(node, links);
-    }
-    Threads {
-        heads: [0; model::NODES],
-        next: [0; model::ENDS],
-    }
 }

@@ -1,6 +1,4 @@
 // Lose the oldest packet of a lane.
-use crate::flight::take_out;
-use crate::search::oldest;
 use crate::tally::Step;
 use crate::tally::bare;
 use crate::tally::counted;
@@ -8,6 +6,8 @@ use crate::tally::done;
 use arrays::SLOTS;
 use arrays::Tally;
 use model::Went;
+use moves::oldest;
+use moves::take_out;
 ghost use mathlib.Core.Path.{_≡_};
 ghost use mathlib.Core.Bool.{Bool, true};
 ghost use mathlib.Core.List.{List};

@@ -1,8 +1,6 @@
 // Send at a node.
-use crate::chain::way;
 use crate::depart::leave;
 use crate::depart::turn_and_leave;
-use crate::search::held;
 use crate::tally::Step;
 use crate::tally::bare;
 use crate::tally::counted;
@@ -10,6 +8,8 @@ use crate::tally::done;
 use arrays::SLOTS;
 use arrays::Tally;
 use model::Went;
+use moves::held;
+use moves::way;
 ghost use mathlib.Core.Path.{_≡_};
 ghost use mathlib.Core.Bool.{Bool, true};
 ghost use mathlib.Core.List.{List, []};

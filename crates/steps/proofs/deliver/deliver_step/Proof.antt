@@ -16,7 +16,7 @@ use Rattle.model.proofs.Ends.{opp-below, link-opp}
 use Rattle.arrays.specs.View.{netOf, endsOf, countsOf, packetAt}
 use Rattle.arrays.specs.Flight.{packets}
 use Rattle.steps.specs.Steps.{stateAt, outcomeOf, landed, bounced}
-use Rattle.steps.proofs.Searches.{used-in}
+use Rattle.moves.proofs.Searches.{used-in}
 use Rattle.steps.proofs.Sounds.{sound-if}
 use Rattle.steps.proofs.OffLanes.{off-no-such, off-down, off-empty, off-oldest, took-is, none-there, oldest-there, rest-there, slots-kept}
 use Rattle.steps.proofs.Deliveries.{fresh-is, out-of-step, deal-news, deal-bounce, deal-on, held-at, heard-is}

@@ -15,8 +15,8 @@ use Rattle.model.specs.Fail.{cut}
 use Rattle.arrays.specs.View.{netOf, countsOf, packetAt}
 use Rattle.arrays.specs.Flight.{packets}
 use Rattle.steps.specs.Steps.{stateAt, outcomeOf}
-use Rattle.steps.proofs.Searches.{used-in}
-use Rattle.steps.proofs.Packets.{tab-length}
+use Rattle.moves.proofs.Searches.{used-in}
+use Rattle.moves.proofs.Packets.{tab-length}
 use Rattle.steps.proofs.Tallies.{bare-is}
 use Rattle.steps.proofs.Cuts.{fail-no-such, fail-down, fail-cuts, cut-is}
 use borrow.Author.Needs.{needs}

@@ -14,7 +14,7 @@ use Rattle.arrays.specs.View.{netOf, endsOf, countsOf}
 use Rattle.arrays.specs.Flight.{packets}
 use Rattle.steps.specs.Steps.{stateAt, outcomeOf, tallied}
 use lib.ListN.{getD}
-use Rattle.steps.proofs.Searches.{used-in}
+use Rattle.moves.proofs.Searches.{used-in}
 use Rattle.steps.proofs.Tallies.{done-is}
 use Rattle.steps.proofs.OffLanes.{off-no-such, off-down, off-empty, off-oldest, took-is, none-there, oldest-there, rest-there, slots-kept}
 use borrow.Author.Needs.{needs}

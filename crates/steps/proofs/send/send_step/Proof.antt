@@ -14,8 +14,8 @@ use Rattle.arrays.specs.declared.Tally.{Tally}
 use Rattle.steps.specs.declared.tally.Step.{Step}
 use Rattle.arrays.specs.View.{used, packetAt}
 use Rattle.steps.specs.Steps.{stateAt, outcomeOf, tallied}
-use Rattle.steps.proofs.Packets.{tab-length}
-use Rattle.steps.proofs.Searches.{used-in}
+use Rattle.moves.proofs.Packets.{tab-length}
+use Rattle.moves.proofs.Searches.{used-in}
 use Rattle.steps.proofs.Ways.{has-way, no-way, onward-by, onward-turned, turn-finds}
 use Rattle.steps.proofs.Sounds.{remote-free, sound-if}
 use Rattle.steps.proofs.Sends.{out-live, send-no-such, send-arrives, send-strands, send-full, send-goes}

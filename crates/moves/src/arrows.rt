@@ -1,0 +1,62 @@
+// A turn of a node, in the arrays of its ends.
+use crate::search::marked;
+ghost use mathlib.Core.Path.{_≡_};
+ghost use mathlib.Core.Bool.{not};
+ghost use mathlib.Core.List.{[]};
+ghost use Prim.Native.Nat.{_+_, _≤_, _<_};
+ghost use lib.ListN.{getD, set};
+ghost use Rattle.model.specs.Limits.{linksMost, nodesMost, eventsMost};
+ghost use Rattle.model.specs.Departure.{hasMark};
+ghost use Rattle.arrays.specs.View.{endsSeen};
+ghost use Rattle.moves.specs.Turned.{Long, Turned};
+
+// Each end of v has its part: all on live links where the turn is full, else the marked ones.
+fn turn_ends(
+    node: &[u16; model::ENDS],
+    live: &[bool; model::LINKS],
+    out: &mut [bool; model::ENDS],
+    local: &mut [bool; model::ENDS],
+    mark: &mut [bool; model::ENDS],
+    links: usize,
+    v: u16,
+    full: bool,
+)
+    requires { ⌜ (links ≤ linksMost) × (full ≡ not (hasMark (endsSeen links (now node) [] [] [] (now mark)) v)) × Long (now out) (now local) (now mark) ⌝ }
+    ensures { λ r. ⌜ Turned (endsSeen links (now (node .entry)) (now (live .entry)) (now (out .entry)) (now (local .entry)) (now (mark .entry))) v (now (out .exit)) (now (local .exit)) (now (mark .exit)) ⌝ }
+{
+    let ends = 2 * links;
+    let mut x: usize = 0;
+    while x < ends {
+        let here = node[x] == v;
+        let alive = live[x / 2];
+        let m = mark[x];
+        let t = here & (full & alive | !full & m);
+        let o = t | out[x];
+        out[x] = o;
+        let b = local[x];
+        local[x] = t & !b | !t & b;
+        mark[x] = here & (alive & !o) | !here & m;
+        x += 1;
+    }
+}
+
+// One turn of v.
+pub fn turn(
+    node: &[u16; model::ENDS],
+    live: &[bool; model::LINKS],
+    out: &mut [bool; model::ENDS],
+    local: &mut [bool; model::ENDS],
+    mark: &mut [bool; model::ENDS],
+    turns: &mut [u32; model::NODES],
+    links: usize,
+    v: usize,
+)
+    requires { ⌜ (links ≤ linksMost) × (v < nodesMost) × (getD (now turns) v 0 ≤ eventsMost) × Long (now out) (now local) (now mark) ⌝ }
+    ensures { λ r. ⌜ Turned (endsSeen links (now (node .entry)) (now (live .entry)) (now (out .entry)) (now (local .entry)) (now (mark .entry))) v (now (out .exit)) (now (local .exit)) (now (mark .exit)) × (now (turns .exit) ≡ set (now (turns .entry)) v (getD (now (turns .entry)) v 0 + 1)) ⌝ }
+{
+    let w = v as u16;
+    let full = !marked(node, mark, links, w);
+    turn_ends(node, live, out, local, mark, links, w, full);
+    let t = turns[v];
+    turns[v] = t + 1;
+}
