@@ -2,7 +2,7 @@
 use Prim.Native.Nat.{ℕ, zero, suc, _+_, _≤_, _<_}
 use native.Mathlib.Omega.{arith}
 use native.Mathlib.Numerals.{add-one}
-use mathlib.Core.Path.{_≡_, refl, sym, ap, _∙_}
+use mathlib.Core.Path.{_≡_, refl, sym, ap, _∙_, subst}
 use mathlib.Core.Logic.{_⊎_, inl, inr}
 use mathlib.Core.Bool.{Bool, false, cond}
 use mathlib.Core.List.{List, [], _∷_, _++_}
@@ -106,3 +106,9 @@ shortest-is n a b c d e h =
       fourth = omega (arith, h, w .1, z .1, y .1, x .0);
       fifth = omega (arith, h, w .1, z .1, y .1, x .1);
     }
+
+-- what was given, said of an equal state
+pub given-by : {s s′ : State} {kinds arguments : List ℕ} {k : ℕ} {an ps ws an′ ps′ ws′ : List ℕ} → s ≡ s′
+    → Lists s kinds arguments k an ps ws an′ ps′ ws′ → Lists s′ kinds arguments k an ps ws an′ ps′ ws′
+given-by {kinds = kinds} {arguments = arguments} {k = k} {an = an} {ps = ps} {ws = ws} {an′ = an′} {ps′ = ps′} {ws′ = ws′} e l =
+    subst (λ (s : State). Lists s kinds arguments k an ps ws an′ ps′ ws′) e l

@@ -1,7 +1,9 @@
 -- The check of a record's arrays, said of the record. Assumes nothing.
-use mathlib.Core.Path.{_≡_, _∙_}
+use mathlib.Core.Path.{_≡_, ap, _∙_}
 use mathlib.Core.Bool.{Bool}
 use Rattle.model.specs.Formed.{wellFormed}
+use Rattle.arrays.specs.declared.Tally.{Tally}
+use Rattle.steps.specs.Steps.{stateAt}
 use Rattle.network.specs.declared.record.Network.{Network}
 use Rattle.network.specs.View.{tallyOf, view}
 use Rattle.arrays.proofs.WellFormed.{shown, bits-unread}
@@ -14,3 +16,9 @@ of-view n e =
     e
     ∙ bits-unread (n .node) (n .live) (n .out) (n .mark) (n .local) (n .remote) (n .bit) (n .turns) (n .number) (n .lane) (n .nodes) (n .destination)
     (n .links) (tallyOf n)
+
+-- the arrays and the counts of a record are what a reader sees of it
+pub seen-by : (n : Network) {t : Tally} → t ≡ tallyOf n
+    → stateAt (n .node) (n .live) (n .out) (n .local) (n .remote) (n .mark) (n .turns) (n .number) (n .lane) (n .bit) (n .nodes) (n .destination) (n .links) t ≡ view n
+seen-by n e =
+    ap (λ (t : Tally). stateAt (n .node) (n .live) (n .out) (n .local) (n .remote) (n .mark) (n .turns) (n .number) (n .lane) (n .bit) (n .nodes) (n .destination) (n .links) t) e

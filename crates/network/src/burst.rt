@@ -44,10 +44,17 @@ pub(crate) fn way_code(w: Went) -> usize
     }
 }
 
-pub(crate) fn lesser(a: usize, b: usize) -> usize
+fn lesser(a: usize, b: usize) -> usize
     ensures { λ r. ⌜ r ≡ least a b ⌝ }
 {
     if a < b { a } else { b }
+}
+
+// As many calls are made as the shortest of five lists holds.
+pub(crate) fn shortest(a: usize, b: usize, c: usize, d: usize, e: usize) -> usize
+    ensures { λ r. ⌜ r ≡ least a (least b (least c (least d e))) ⌝ }
+{
+    lesser(a, lesser(b, lesser(c, lesser(d, e))))
 }
 
 // What call k gave, into the lists.

@@ -5,8 +5,8 @@ mod record;
 
 use arrays::Tally;
 use arrays::formed;
-use burst::lesser;
 use burst::run;
+use burst::shortest;
 use moves::threads;
 pub use opening::Opened;
 pub use record::Burst;
@@ -23,24 +23,31 @@ ghost use Rattle.model.specs.Send.{sendTo};
 ghost use Rattle.model.specs.Deliver.{deliverOn};
 ghost use Rattle.model.specs.Lose.{loseOn};
 ghost use Rattle.model.specs.Fail.{failOf};
-ghost use Rattle.network.specs.View.{view};
+ghost use Rattle.network.specs.View.{view, tallyOf};
 ghost use Rattle.network.specs.Opening.{OpenPost};
 ghost use Rattle.steps.specs.Call.{call};
 ghost use Rattle.network.specs.Calls.{CallPost, BurstPost};
 
 impl Network {
-    // "A record is well formed when .."
-    pub fn well_formed(self) -> bool
-        ensures { λ r. ⌜ r ≡ wellFormed (view self) ⌝ }
+    // The counts alone: what an event changes beside the arrays.
+    fn tally(self) -> Tally
+        ensures { λ r. ⌜ r ≡ tallyOf self ⌝ }
     {
-        let tally = Tally {
+        Tally {
             flying: self.flying,
             events: self.events,
             admitted: self.admitted,
             delivered: self.delivered,
             lost: self.lost,
             stranded: self.stranded,
-        };
+        }
+    }
+
+    // "A record is well formed when .."
+    pub fn well_formed(self) -> bool
+        ensures { λ r. ⌜ r ≡ wellFormed (view self) ⌝ }
+    {
+        let tally = self.tally();
         formed(
             &self.node,
             &self.live,
@@ -60,27 +67,8 @@ impl Network {
     pub fn apply(self, kind: u32, argument: usize) -> Moved
         ensures { λ r. ⌜ CallPost self (call (view self) kind argument) r ⌝ }
     {
-        let tally = Tally {
-            flying: self.flying,
-            events: self.events,
-            admitted: self.admitted,
-            delivered: self.delivered,
-            lost: self.lost,
-            stranded: self.stranded,
-        };
-        let sound = formed(
-            &self.node,
-            &self.live,
-            &self.out,
-            &self.mark,
-            &self.turns,
-            &self.number,
-            &self.lane,
-            self.nodes,
-            self.destination,
-            self.links,
-            tally,
-        );
+        let sound = self.well_formed();
+        let tally = self.tally();
         let mut live = self.live;
         let mut out = self.out;
         let mut local = self.local;
@@ -194,33 +182,14 @@ impl Network {
     ) -> Burst
         ensures { λ r. ⌜ BurstPost self (now (kinds .entry)) (now (arguments .entry)) (now (answers .entry)) (now (packets .entry)) (now (ways .entry)) (now (answers .exit)) (now (packets .exit)) (now (ways .exit)) r ⌝ }
     {
-        let tally = Tally {
-            flying: self.flying,
-            events: self.events,
-            admitted: self.admitted,
-            delivered: self.delivered,
-            lost: self.lost,
-            stranded: self.stranded,
-        };
-        let sound = formed(
-            &self.node,
-            &self.live,
-            &self.out,
-            &self.mark,
-            &self.turns,
-            &self.number,
-            &self.lane,
-            self.nodes,
-            self.destination,
-            self.links,
-            tally,
-        );
-        let count = lesser(
+        let sound = self.well_formed();
+        let tally = self.tally();
+        let count = shortest(
             kinds.len(),
-            lesser(
-                arguments.len(),
-                lesser(answers.len(), lesser(packets.len(), ways.len())),
-            ),
+            arguments.len(),
+            answers.len(),
+            packets.len(),
+            ways.len(),
         );
         let chains = threads(sound, &self.node, self.links);
         let heads = chains.heads;
