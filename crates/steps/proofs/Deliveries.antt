@@ -1,24 +1,25 @@
 -- The ways through a delivery. Assumes nothing.
-use Prim.Native.Nat.{ℕ, suc, _+_, _*_, _/_, _≤_, _<_}
+use Prim.Native.Nat.{ℕ, zero, suc, _+_, _*_, _/_, _≤_, _<_}
 use native.Mathlib.Omega.{arith}
 use mathlib.Core.Path.{_≡_, refl, sym, ap, _∙_}
 use mathlib.Core.Logic.{_⊎_, inl, inr}
-use mathlib.Core.Bool.{Bool, true, false, not, cond, xor, _&&_, _||_}
-use mathlib.Core.List.{List}
+use mathlib.Core.Bool.{Bool, true, false, not, cond, xor, _&&_, _||_, and-true, and-false}
+use mathlib.Core.List.{List, [], _∷_}
 use lib.Dec.{eqb}
 use lib.ListN.{length, getD, set}
 use lib.Seq.{getD-set-same, getD-set-other}
 use borrow.Author.Tests.{eqb-true, eqb-false, eq-eqb, ne-eqb}
+use Rattle.model.specs.declared.Went.the-variants as went
 use Rattle.model.specs.Limits.{linksMost, endsMost}
 use Rattle.model.specs.Answers as answers
 use Rattle.model.specs.State.{State, Packet, Net, Counts, opp, lanes, live}
 use Rattle.model.specs.Departure.{liveAt, hasLive}
-use Rattle.model.specs.Outcome.{Outcome, refuse}
+use Rattle.model.specs.Outcome.{Outcome, refuse, counted, gives, leaves, onward}
 use Rattle.model.specs.Lanes.{taken}
 use Rattle.model.specs.Deliver.{news, arrives}
 use Rattle.model.proofs.Below.{look, any-here}
 use Rattle.arrays.specs.View.{used, endsOf, stateOf}
-use Rattle.steps.specs.Steps.{landed, bounced}
+use Rattle.steps.specs.Steps.{landed}
 use Rattle.moves.proofs.Searches.{used-in, used-out}
 use Rattle.moves.proofs.Turns.{used-is}
 
@@ -43,28 +44,41 @@ module _ (s : State) (x : ℕ) (p : Packet) where
     was-out : s .ends .out (opp x) ≡ o
     was-out = ap (s .ends .out) (sym at) ∙ was
 
+    was-taken : taken s x .ends .out (opp x) ≡ o
+    unfolding taken
+    was-taken = was-out
+
     new-is : isNew ≡ f
     new-is = ap (λ z. xor (p .bit) (s .ends .remote z)) (sym at) ∙ said
 
     pub out-of-step : (not o && f) ≡ true → dealt ≡ refuse s answers.outOfStep
     out-of-step e = rw (was-out, new-is, e)
 
-    module _ (step : (not o && f) ≡ false) where
-      pub deal-news : f ≡ true → dealt ≡ landed (news (taken s x) y) (s .net .node y) (p .number)
-      unfolding arrives news taken
-      deal-news e = rw (was-out, new-is, step, e, is-out o (rw e at step), at)
-        where
-          is-out : (b : Bool) → (not b && true) ≡ false → b ≡ true
-          is-out true q = refl
-          is-out false q = sym q
+    pub deal-lands : (not o && f) ≡ false → dealt ≡ landed (cond f (news (taken s x) y) (taken s x)) y (p .number)
+    unfolding arrives news taken
+    deal-lands step = elim (look f) [
+      | inl e ↦ rw (was-out, new-is, step, e, is-out o (rw e at step), eq-eqb y y refl, at)
+      | inr e ↦ elim (look o) [
+        | inl u ↦ rw (at, was-out, new-is, e, was-taken, u)
+        | inr u ↦ rw (at, was-out, new-is, e, was-taken, u)
+      ]
+    ]
+      where
+        is-out : (b : Bool) → (not b && true) ≡ false → b ≡ true
+        is-out true q = refl
+        is-out false q = sym q
 
-      pub deal-bounce : f ≡ false → o ≡ true → dealt ≡ bounced (taken s x) (s .net .node y) y (p .number)
-      unfolding arrives taken
-      deal-bounce e u = rw (was-out, new-is, e, u, at)
+-- the ways of a packet that has come to end y of node v
+module _ (s : State) (y n : ℕ) {v : ℕ} (here : s .net .node y ≡ v) where
+  pub lands-home : v ≡ s .net .destination → gives (counted s 0 1 0 0) n went.Delivered ≡ landed s y n
+  lands-home h = rw (here, eq-eqb v (s .net .destination) h)
 
-      pub deal-on : f ≡ false → o ≡ false → dealt ≡ landed (taken s x) (s .net .node y) (p .number)
-      unfolding arrives taken
-      deal-on e u = rw (was-out, new-is, e, u, at)
+  module _ (away : v ≡ s .net .destination → ⊥) where
+    pub lands-back : s .ends .out y ≡ true → leaves (counted s 0 0 0 0) y n ≡ landed s y n
+    lands-back o = rw (here, ne-eqb v (s .net .destination) away, o)
+
+    pub lands-on : s .ends .out y ≡ false → onward (counted s 0 0 0 0) v n ≡ landed s y n
+    lands-on o = rw (here, ne-eqb v (s .net .destination) away, o)
 
 -- the node of a live end has a live end
 pub held-at : (s : State) (v y : ℕ) → y < lanes s → s .net .node y ≡ v → live s y ≡ true → hasLive s v ≡ true
@@ -72,8 +86,21 @@ unfolding hasLive
 held-at s v y h e l = any-here (liveAt s v) (lanes s) y h (rw (eq-eqb (s .net .node y) v e, l))
 
 -- news, in the arrays
-module _ (net : Net) (live out local remote mark : List Bool) (turns : List ℕ) (flight : List Packet) (counts : Counts) (y : ℕ) (q : Bool)
-    (inside : y < 2 * net .links) (small : net .links ≤ linksMost) (outs : length out ≡ endsMost) (remotes : length remote ≡ endsMost) (was : getD remote y false ≡ q) where
+pub set-same {ℓ} : {A : Type ℓ} (l : List A) (i : ℕ) (d : A) → set l i (getD l i d) ≡ l
+set-same [] i d = refl
+set-same (x ∷ xs) zero d = refl
+set-same (x ∷ xs) (suc i) d = ap (λ l. x ∷ l) (set-same xs i d)
+
+flipped : (q : Bool) → (q && false || not q && true) ≡ not q
+flipped true = refl
+flipped false = refl
+
+stays : (q : Bool) → (q && true || not q && false) ≡ q
+stays true = refl
+stays false = refl
+
+module _ (net : Net) (live out local remote mark : List Bool) (turns : List ℕ) (flight : List Packet) (counts : Counts) (y : ℕ)
+    (inside : y < 2 * net .links) (small : net .links ≤ linksMost) (outs : length out ≡ endsMost) (remotes : length remote ≡ endsMost) where
   abbrev K : ℕ
   K = 2 * net .links
 
@@ -84,29 +111,40 @@ module _ (net : Net) (live out local remote mark : List Bool) (turns : List ℕ)
       go x (inl e) = rw (e, eqb-true x y e) (getD-set-same out y false false (omega arith))
       go x (inr e) = rw e (getD-set-other out y x false false (eqb-false x y e))
 
-  remote-news : used K false (set remote y (not q)) ≡ (λ x. cond (eqb x y) (not (used K false remote x)) (used K false remote x))
-  remote-news = used-is K false (set remote y (not q)) _ (λ x h. rw (used-in K false remote x h) (go x (look (eqb x y)))) (λ x h. rw (used-out K false remote x h, ne-eqb x y (λ e. omega arith)))
+  remote-news : used K false (set remote y (not (getD remote y false))) ≡ (λ x. cond (eqb x y) (not (used K false remote x)) (used K false remote x))
+  remote-news = used-is K false (set remote y (not (getD remote y false))) _ (λ x h. rw (used-in K false remote x h) (go x (look (eqb x y)))) (λ x h. rw (used-out K false remote x h, ne-eqb x y (λ e. omega arith)))
     where
-      go : (x : ℕ) → (eqb x y ≡ true) ⊎ (eqb x y ≡ false) → getD (set remote y (not q)) x false ≡ cond (eqb x y) (not (getD remote x false)) (getD remote x false)
-      go x (inl e) = rw (e, eqb-true x y e, was) (getD-set-same remote y (not q) false (omega arith))
-      go x (inr e) = rw e (getD-set-other remote y x (not q) false (eqb-false x y e))
+      go : (x : ℕ) → (eqb x y ≡ true) ⊎ (eqb x y ≡ false) → getD (set remote y (not (getD remote y false))) x false ≡ cond (eqb x y) (not (getD remote x false)) (getD remote x false)
+      go x (inl e) = rw (e, eqb-true x y e) (getD-set-same remote y (not (getD remote y false)) false (omega arith))
+      go x (inr e) = rw e (getD-set-other remote y x (not (getD remote y false)) false (eqb-false x y e))
 
-  pub news-is : {s : State} → stateOf net live (endsOf (net .links) out local remote mark) turns flight counts ≡ s
-      → stateOf net live (endsOf (net .links) (set out y false) local (set remote y (not q)) mark) turns flight counts ≡ news s y
+  abbrev shown : State
+  shown = stateOf net live (endsOf (net .links) out local remote mark) turns flight counts
+
+  pub heard-is : (f : Bool) {s : State} (out′ remote′ : List Bool) → out′ ≡ set out y (getD out y false && not f)
+      → remote′ ≡ set remote y (getD remote y false && not f || not (getD remote y false) && f)
+      → shown ≡ s → stateOf net live (endsOf (net .links) out′ local remote′ mark) turns flight counts ≡ cond f (news s y) s
   unfolding news
-  news-is e =
+  heard-is true out′ remote′ eo er e =
       (λ i.
       record {
         net = net;
         up = used (net .links) false live;
-        ends = record { out = out-news i; local = used K false local; remote = remote-news i; mark = used K false mark };
+        ends = record {
+          out = (ap (used K false) (eo ∙ ap (set out y) (and-false (getD out y false))) ∙ out-news) i;
+          local = used K false local;
+          remote = (ap (used K false) (er ∙ ap (set remote y) (flipped (getD remote y false))) ∙ remote-news) i;
+          mark = used K false mark;
+        };
         turns = used (net .nodes) 0 turns;
         flight = flight;
         counts = counts;
       })
       ∙ ap (λ s. news s y) e
-
-  pub heard-is : {s : State} (out′ remote′ : List Bool) → out′ ≡ set out y false → remote′ ≡ set remote y (not q)
-      → stateOf net live (endsOf (net .links) out local remote mark) turns flight counts ≡ s
-      → stateOf net live (endsOf (net .links) out′ local remote′ mark) turns flight counts ≡ news s y
-  heard-is out′ remote′ eo er e = rw (eo, er) (news-is e)
+  heard-is false out′ remote′ eo er e =
+      (λ i.
+      stateOf net live
+      (endsOf (net .links) ((eo ∙ ap (set out y) (and-true (getD out y false)) ∙ set-same out y false) i) local
+      ((er ∙ ap (set remote y) (stays (getD remote y false)) ∙ set-same remote y false) i) mark)
+      turns flight counts)
+      ∙ e

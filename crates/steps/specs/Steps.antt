@@ -63,9 +63,9 @@ tallied t flying admitted delivered lost stranded =
       stranded = t .stranded + stranded;
     }
 
--- a packet at node v, taken from its lane: steps 3 and 5 of a delivery, and steps 3 and 4
+-- a packet that has come to end y, taken from its lane, the news heard: "3. At the destination: delivered", "4. .. the packet goes back",
+-- "5. Otherwise: departure update"
 abbrev pub landed : State → ℕ → ℕ → Outcome
-landed s v n = cond (eqb v (s .net .destination)) (gives (counted s 0 1 0 0) n went.Delivered) (onward (counted s 0 0 0 0) v n)
-
-abbrev pub bounced : State → ℕ → ℕ → ℕ → Outcome
-bounced s v x n = cond (eqb v (s .net .destination)) (gives (counted s 0 1 0 0) n went.Delivered) (leaves (counted s 0 0 0 0) x n)
+landed s y n =
+    cond (eqb (s .net .node y) (s .net .destination)) (gives (counted s 0 1 0 0) n went.Delivered)
+    (cond (s .ends .out y) (leaves (counted s 0 0 0 0) y n) (onward (counted s 0 0 0 0) (s .net .node y) n))

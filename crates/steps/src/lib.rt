@@ -1,11 +1,16 @@
 // One event on the arrays of a record that was checked: the part that moves arrows.
+mod answers;
 mod deliver;
 mod depart;
 mod fail;
+mod lanes;
 mod lose;
 mod send;
 mod tally;
 
+use answers::NO_MORE_EVENTS;
+use answers::NO_SUCH;
+use answers::NOT_FORMED;
 use arrays::SLOTS;
 use arrays::Tally;
 use deliver::deliver_step;
@@ -58,10 +63,10 @@ pub fn step<'a>(
     ensures { λ r. ⌜ (outcomeOf (stateAt (now (node .entry)) (now (live .exit)) (now (out .exit)) (now (local .exit)) (now (remote .exit)) (now (mark .exit)) (now (turns .exit)) (now (number .exit)) (now (lane .exit)) (now (bit .exit)) nodes destination links (r .tally)) r ≡ call (stateAt (now (node .entry)) (now (live .entry)) (now (out .entry)) (now (local .entry)) (now (remote .entry)) (now (mark .entry)) (now (turns .entry)) (now (number .entry)) (now (lane .entry)) (now (bit .entry)) nodes destination links tally) kind argument) × Whole (now (live .exit)) (now (out .exit)) (now (local .exit)) (now (remote .exit)) (now (mark .exit)) (now (turns .exit)) (now (number .exit)) (now (lane .exit)) (now (bit .exit)) ⌝ }
 {
     if !formed {
-        return bare(tally, 1);
+        return bare(tally, NOT_FORMED);
     }
     if model::EVENTS <= tally.events {
-        return bare(tally, 5);
+        return bare(tally, NO_MORE_EVENTS);
     }
     if kind == SEND {
         return send_step(
@@ -112,5 +117,5 @@ pub fn step<'a>(
     if kind == FAIL {
         return fail_step(live, mark, number, lane, bit, links, tally, argument);
     }
-    bare(tally, 6)
+    bare(tally, NO_SUCH)
 }

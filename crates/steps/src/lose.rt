@@ -1,4 +1,6 @@
 // Lose the oldest packet of a lane.
+use crate::answers::DONE;
+use crate::lanes::find;
 use crate::tally::Step;
 use crate::tally::bare;
 use crate::tally::counted;
@@ -6,7 +8,6 @@ use crate::tally::done;
 use arrays::SLOTS;
 use arrays::Tally;
 use model::Went;
-use moves::oldest;
 use moves::take_out;
 ghost use mathlib.Core.Path.{_≡_};
 ghost use mathlib.Core.Bool.{Bool, true};
@@ -30,17 +31,13 @@ pub(crate) fn lose_step(
     requires { ⌜ (links ≤ linksMost) × (tally .flying ≤ flightMost) × Fair tally × Slots (now number) (now lane) (now bit) ⌝ }
     ensures { λ r. ⌜ ((node : List ℕ) (out local remote mark : List Bool) (turns : List ℕ) (nodes destination : ℕ) → wellFormed (stateAt node (now (live .entry)) out local remote mark turns (now (number .entry)) (now (lane .entry)) (now (bit .entry)) nodes destination links tally) ≡ true → outcomeOf (stateAt node (now (live .entry)) out local remote mark turns (now (number .exit)) (now (lane .exit)) (now (bit .exit)) nodes destination links (r .tally)) r ≡ loseOn (stateAt node (now (live .entry)) out local remote mark turns (now (number .entry)) (now (lane .entry)) (now (bit .entry)) nodes destination links tally) x) × Slots (now (number .exit)) (now (lane .exit)) (now (bit .exit)) ⌝ }
 {
-    if 2 * links <= x {
-        return bare(tally, 6);
-    }
-    if !live[x / 2] {
-        return bare(tally, 7);
-    }
     let flying = tally.flying;
-    let i = oldest(lane, flying, x as u16);
-    if flying <= i {
-        return bare(tally, 8);
+    let found = find(live, lane, links, flying, x);
+    let answer = found.answer;
+    if answer != DONE {
+        return bare(tally, answer);
     }
+    let i = found.at;
     let n = number[i];
     let last = flying - 1;
     take_out(number, lane, bit, i, last);
