@@ -1,0 +1,3 @@
+// A drill file in, the program's whole text out.
+mod digits;
+mod words;
