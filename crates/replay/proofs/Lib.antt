@@ -1,2 +1,5 @@
 pub mod Pending
 pub mod Decimals
+pub mod LineParts
+pub mod CodeWords
+pub mod LastLines

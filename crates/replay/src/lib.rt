@@ -1,3 +1,4 @@
 // A drill file in, the program's whole text out.
 mod digits;
+mod lines;
 mod words;

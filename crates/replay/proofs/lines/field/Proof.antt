@@ -1,0 +1,22 @@
+-- The space, then the digits. Assumes nothing.
+use mathlib.Core.Path.{refl}
+use mathlib.Core.List.{_∷_}
+use Rattle.model.specs.Text.{ascii}
+use Rattle.replay.proofs.Pending.{begin, room-all, last, room-byte, step-byte}
+use Rattle.replay.proofs.lines.field.Statement.{statement}
+use Rattle.replay.proofs.lines.field.Tie as tie
+
+byte-requires : tie.Need-byte-requires
+unfolding ascii
+byte-requires c κs = room-byte refl (begin (c .before .pre))
+
+number-requires : tie.Need-number-requires
+unfolding ascii
+number-requires c κs = room-all (step-byte refl (begin (c .before .before .before .pre)) (c .before .byte .ensures))
+
+returns : tie.Need-returns
+unfolding ascii
+returns c = last (step-byte refl (begin (c .before .before .before .before .pre)) (c .before .before .byte .ensures)) (c .number .ensures)
+
+pub field-spec : {M : Type 1} → statement M
+field-spec = tie.close (tie.spec byte-requires number-requires returns)

@@ -1,0 +1,162 @@
+// The lines of the text.
+use crate::digits::number;
+use crate::words::byte;
+use crate::words::word;
+use network::Network;
+ghost use mathlib.Core.Path.{_≡_};
+ghost use mathlib.Core.List.{_++_};
+ghost use mathlib.Core.Option.{some};
+ghost use Prim.Native.Nat.{_≤_};
+ghost use lib.ListN.{length};
+ghost use Rattle.model.specs.Limits.{nodesMost};
+ghost use Rattle.model.specs.Text.{ascii, digits, spoiltLine, refusedLine};
+ghost use Rattle.network.specs.View.{view};
+ghost use Rattle.replay.specs.Puts.{Room, Put};
+ghost use Rattle.replay.specs.Codes.{packetWord, wayWord, codeLine};
+ghost use Rattle.replay.specs.Lines.{row, endingOf};
+
+const SPOILT: usize = 11;
+
+// A count as a number of the text.
+pub(crate) fn wide(x: u32) -> usize
+    ensures { λ r. ⌜ r ≡ x ⌝ }
+{
+    x as usize
+}
+
+// A space and a number.
+fn field(out: &mut [u8; model::TEXT_MOST], at: usize, n: usize) -> usize
+    requires { ⌜ Room (now out) at (ascii " " ++ digits n) ⌝ }
+    ensures { λ r. ⌜ Put (now (out .entry)) at (ascii " " ++ digits n) r (now (out .exit)) ⌝ }
+{
+    let next = byte(out, at, b' ');
+    number(out, next, n)
+}
+
+// A space and a count.
+fn count(out: &mut [u8; model::TEXT_MOST], at: usize, n: u32) -> usize
+    requires { ⌜ Room (now out) at (ascii " " ++ digits n) ⌝ }
+    ensures { λ r. ⌜ Put (now (out .entry)) at (ascii " " ++ digits n) r (now (out .exit)) ⌝ }
+{
+    field(out, at, wide(n))
+}
+
+// A space and a packet, by its code.
+fn packet(out: &mut [u8; model::TEXT_MOST], at: usize, code: u32) -> usize
+    requires { ⌜ Room (now out) at (ascii " " ++ packetWord code) ⌝ }
+    ensures { λ r. ⌜ Put (now (out .entry)) at (ascii " " ++ packetWord code) r (now (out .exit)) ⌝ }
+{
+    if code == model::EVENTS {
+        return word(out, at, b" -");
+    }
+    count(out, at, code)
+}
+
+// A space and where a packet went, by its code.
+fn way(out: &mut [u8; model::TEXT_MOST], at: usize, code: usize) -> usize
+    requires { ⌜ Room (now out) at (ascii " " ++ wayWord code) ⌝ }
+    ensures { λ r. ⌜ Put (now (out .entry)) at (ascii " " ++ wayWord code) r (now (out .exit)) ⌝ }
+{
+    if code < model::ENDS {
+        return field(out, at, code);
+    }
+    if code == model::ENDS {
+        return word(out, at, b" in");
+    }
+    if code == model::ENDS + 1 {
+        return word(out, at, b" lost");
+    }
+    if code == model::ENDS + 2 {
+        return word(out, at, b" end");
+    }
+    word(out, at, b" -")
+}
+
+pub(crate) fn event(
+    out: &mut [u8; model::TEXT_MOST],
+    at: usize,
+    ordinal: usize,
+    answer: u32,
+    handled: u32,
+    went: usize,
+) -> usize
+    requires { ⌜ Room (now out) at (codeLine ordinal answer handled went) ⌝ }
+    ensures { λ r. ⌜ Put (now (out .entry)) at (codeLine ordinal answer handled went) r (now (out .exit)) ⌝ }
+{
+    let first = number(out, at, ordinal);
+    let second = count(out, first, answer);
+    let third = packet(out, second, handled);
+    let end = way(out, third, went);
+    byte(out, end, b'\n')
+}
+
+// A word and numbers.
+fn row(out: &mut [u8; model::TEXT_MOST], at: usize, w: &[u8], list: &[usize]) -> usize
+    requires { ⌜ Room (now out) at (row (now w) (now list) (length (now list))) ⌝ }
+    ensures { λ r. ⌜ Put (now (out .entry)) at (row (now (w .entry)) (now (list .entry)) (length (now (list .entry)))) r (now (out .exit)) ⌝ }
+{
+    let mut next = word(out, at, w);
+    let mut i: usize = 0;
+    while i < list.len() {
+        let k = i;
+        i += 1;
+        next = field(out, next, list[k]);
+    }
+    byte(out, next, b'\n')
+}
+
+pub(crate) fn refused(
+    out: &mut [u8; model::TEXT_MOST],
+    at: usize,
+    answer: usize,
+    place: usize,
+) -> usize
+    requires { ⌜ Room (now out) at (refusedLine answer place) ⌝ }
+    ensures { λ r. ⌜ Put (now (out .entry)) at (refusedLine answer place) r (now (out .exit)) ⌝ }
+{
+    let list = [answer, place];
+    row(out, at, b"refused", &list)
+}
+
+pub(crate) fn spoilt(out: &mut [u8; model::TEXT_MOST], at: usize, place: usize) -> usize
+    requires { ⌜ Room (now out) at (spoiltLine (some place)) ⌝ }
+    ensures { λ r. ⌜ Put (now (out .entry)) at (spoiltLine (some place)) r (now (out .exit)) ⌝ }
+{
+    let list = [SPOILT, place];
+    row(out, at, b"spoilt", &list)
+}
+
+fn turns(
+    out: &mut [u8; model::TEXT_MOST],
+    at: usize,
+    turns: &[u32; model::NODES],
+    nodes: usize,
+) -> usize
+    requires { ⌜ Room (now out) at (row (ascii "turns") (now turns) nodes) × (nodes ≤ nodesMost) ⌝ }
+    ensures { λ r. ⌜ Put (now (out .entry)) at (row (ascii "turns") (now (turns .entry)) nodes) r (now (out .exit)) ⌝ }
+{
+    let mut next = word(out, at, b"turns");
+    let mut v: usize = 0;
+    while v < nodes {
+        let k = v;
+        v += 1;
+        next = count(out, next, turns[k]);
+    }
+    byte(out, next, b'\n')
+}
+
+// The two last lines.
+pub(crate) fn ending(out: &mut [u8; model::TEXT_MOST], at: usize, n: Network) -> usize
+    requires { ⌜ Room (now out) at (endingOf (view n)) × (n .nodes ≤ nodesMost) ⌝ }
+    ensures { λ r. ⌜ Put (now (out .entry)) at (endingOf (view n)) r (now (out .exit)) ⌝ }
+{
+    let total = [
+        wide(n.admitted),
+        wide(n.delivered),
+        wide(n.lost),
+        wide(n.stranded),
+        n.flying,
+    ];
+    let next = row(out, at, b"total", &total);
+    turns(out, next, &n.turns, n.nodes)
+}
