@@ -3,3 +3,4 @@ pub mod Decimals
 pub mod LineParts
 pub mod CodeWords
 pub mod LastLines
+pub mod Chunks

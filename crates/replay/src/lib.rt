@@ -1,4 +1,5 @@
 // A drill file in, the program's whole text out.
+mod chunk;
 mod digits;
 mod lines;
 mod words;

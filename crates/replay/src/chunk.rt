@@ -1,0 +1,69 @@
+// Events read some at a time, so that the record's check is paid once for all of them.
+use drillfile::Cursor;
+use drillfile::Got;
+ghost use mathlib.Core.Path.{_≡_};
+ghost use Prim.Native.Nat.{_≤_};
+ghost use lib.ListN.{length};
+ghost use Rattle.replay.specs.Chunks.{chunk, GatherPost};
+
+pub(crate) const CHUNK: usize = 256;
+
+// Why no more events were read.
+pub(crate) enum Stop {
+    More,
+    End,
+    Spoilt(usize),
+}
+
+pub(crate) struct Gathered {
+    pub count: usize,
+    pub next: usize,
+    pub stop: Stop,
+}
+
+// The events from a position on, by kind and argument, until the lists are full.
+pub(crate) fn gather(
+    file: &[u8],
+    from: usize,
+    kinds: &mut [u32; CHUNK],
+    arguments: &mut [u32; CHUNK],
+) -> Gathered
+    requires { ⌜ (from ≤ length (now file)) × (length (now kinds) ≡ chunk) × (length (now arguments) ≡ chunk) ⌝ }
+    ensures { λ r. ⌜ GatherPost (now (file .entry)) from (now (kinds .exit)) (now (arguments .exit)) r ⌝ }
+{
+    let mut at = from;
+    let mut i: usize = 0;
+    while i < CHUNK {
+        match drillfile::read_event(file, Cursor { at }) {
+            Got::Event {
+                kind,
+                argument,
+                next,
+            } => {
+                kinds[i] = kind;
+                arguments[i] = argument;
+                at = next.at;
+                i += 1;
+            }
+            Got::End(_) => {
+                return Gathered {
+                    count: i,
+                    next: at,
+                    stop: Stop::End,
+                };
+            }
+            Got::Spoilt(place, _) => {
+                return Gathered {
+                    count: i,
+                    next: at,
+                    stop: Stop::Spoilt(place),
+                };
+            }
+        }
+    }
+    Gathered {
+        count: i,
+        next: at,
+        stop: Stop::More,
+    }
+}
