@@ -4,3 +4,6 @@ pub mod LineParts
 pub mod CodeWords
 pub mod LastLines
 pub mod Chunks
+pub mod ChunkLines
+pub mod Tails
+pub mod Played

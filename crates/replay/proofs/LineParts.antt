@@ -3,7 +3,7 @@ use Prim.Native.Nat.{ℕ, zero, suc, _+_, _-_, _≤_, _<_}
 use native.Mathlib.Nat.{zero-add}
 use native.Mathlib.Omega.{arith}
 use mathlib.Core.Path.{_≡_, refl, sym, ap, _∙_}
-use mathlib.Core.List.{List, [], _∷_, _++_, append-assoc}
+use mathlib.Core.List.{List, [], _∷_, _++_}
 use lib.ListN.{length, getD}
 use Rattle.model.specs.Below.{tab}
 use Rattle.model.specs.Text.{ascii, digits, spaced, line}
@@ -13,8 +13,8 @@ use Rattle.replay.specs.Lines.{row}
 use Rattle.replay.proofs.Pending.{Pending, say, room, step, room-byte, last-byte}
 
 spaced-first : (w : List ℕ) (ws : List (List ℕ)) → spaced (w ∷ ws) ≡ (ascii " " ++ w) ++ spaced ws
-unfolding spaced ascii
-spaced-first w ws = sym (append-assoc (ascii " ") w (spaced ws))
+unfolding spaced
+spaced-first w ws = refl
 
 spaced-end : spaced [] ≡ 10 ∷ []
 unfolding spaced ascii

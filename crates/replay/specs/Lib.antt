@@ -3,3 +3,4 @@ pub mod Digits
 pub mod Codes
 pub mod Lines
 pub mod Chunks
+pub mod Plays

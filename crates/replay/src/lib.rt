@@ -2,4 +2,5 @@
 mod chunk;
 mod digits;
 mod lines;
+mod play;
 mod words;

@@ -1,0 +1,64 @@
+// A chunk's events, run by one burst and written line by line.
+use crate::chunk::CHUNK;
+use crate::lines::event;
+use network::Network;
+ghost use mathlib.Core.Path.{_≡_};
+ghost use mathlib.Core.Bool.{true};
+ghost use Prim.Native.Nat.{_≤_};
+ghost use lib.ListN.{length};
+ghost use Rattle.model.specs.Limits.{fileMost};
+ghost use Rattle.model.specs.Formed.{wellFormed};
+ghost use Rattle.network.specs.View.{view};
+ghost use Rattle.replay.specs.Puts.{Room, Put};
+ghost use Rattle.replay.specs.Codes.{codeLines, callLines};
+ghost use Rattle.replay.specs.Chunks.{chunk};
+ghost use Rattle.replay.specs.Plays.{PlayPost};
+
+// The record after a chunk, and the position after its lines.
+pub(crate) struct Played {
+    pub network: Network,
+    pub next: usize,
+}
+
+// A line for each event of a chunk, by what the burst gave.
+fn lines<'a>(
+    out: &mut [u8; model::TEXT_MOST],
+    at: usize,
+    ordinal: usize,
+    answers: &'a [u32; CHUNK],
+    packets: &'a [u32; CHUNK],
+    ways: &'a [usize; CHUNK],
+    count: usize,
+) -> usize
+    requires { ⌜ Room (now out) at (codeLines (now answers) (now packets) (now ways) ordinal 0 count) × (count ≤ chunk) × (ordinal ≤ fileMost) ⌝ }
+    ensures { λ r. ⌜ Put (now (out .entry)) at (codeLines (now (answers .entry)) (now (packets .entry)) (now (ways .entry)) ordinal 0 count) r (now (out .exit)) ⌝ }
+{
+    let mut next = at;
+    let mut i: usize = 0;
+    while i < count {
+        let k = i;
+        i += 1;
+        next = event(out, next, ordinal + k, answers[k], packets[k], ways[k]);
+    }
+    next
+}
+
+pub(crate) fn play<'a>(
+    network: Network,
+    kinds: &'a [u32],
+    arguments: &'a [u32],
+    ordinal: usize,
+    out: &mut [u8; model::TEXT_MOST],
+    at: usize,
+) -> Played
+    requires { ⌜ (wellFormed (view network) ≡ true) × (length (now kinds) ≤ chunk) × (length (now arguments) ≡ length (now kinds)) × (ordinal ≤ fileMost) × Room (now out) at (callLines (view network) (now kinds) (now arguments) ordinal 0 (length (now kinds))) ⌝ }
+    ensures { λ r. ⌜ PlayPost network (now (kinds .entry)) (now (arguments .entry)) ordinal (now (out .entry)) at (now (out .exit)) r ⌝ }
+{
+    let mut answers = [0u32; CHUNK];
+    let mut packets = [0u32; CHUNK];
+    let mut ways = [0usize; CHUNK];
+    let burst = network.burst(kinds, arguments, &mut answers, &mut packets, &mut ways);
+    let next = lines(out, at, ordinal, &answers, &packets, &ways, kinds.len());
+    let network = burst.network;
+    Played { network, next }
+}
