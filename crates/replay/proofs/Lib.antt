@@ -7,3 +7,4 @@ pub mod Chunks
 pub mod ChunkLines
 pub mod Tails
 pub mod Played
+pub mod Running

@@ -3,4 +3,5 @@ mod chunk;
 mod digits;
 mod lines;
 mod play;
+mod run;
 mod words;

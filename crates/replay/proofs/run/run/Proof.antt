@@ -1,0 +1,165 @@
+-- What was written, with what is left from here on, is the whole text. Assumes nothing.
+use Prim.Native.Nat.{_+_, _-_}
+use native.Mathlib.Omega.{arith}
+use mathlib.Core.Path.{_≡_, subst}
+use lib.ListN.{length}
+use denote.Ref.{now}
+use borrow.Author.Needs.{needs}
+use Rattle.model.specs.File.{readEvents}
+use Rattle.model.specs.Text.{drillText}
+use Rattle.network.specs.View.{view}
+use Rattle.replay.specs.Chunks.{chunk, Stopped}
+use Rattle.replay.proofs.Pending.{room, step, room-all, last}
+use Rattle.replay.proofs.Running.{Running, starts, kinds-lent, arguments-lent, few-kinds, as-many, ends, spoils, few-nodes, within, chunk-room, goes-on}
+use Rattle.replay.proofs.run.run.Statement.{statement}
+use Rattle.replay.proofs.run.run.Tie as tie
+
+abbrev Inv-loop : tie.InvT-loop
+Inv-loop file from out₀ network₀ at₀ ordinal₀ next₀ kinds₀ arguments₀ out network at ordinal next kinds arguments =
+    Running file out₀ (drillText (view network₀) (readEvents file from)) out network at ordinal next
+    × (length kinds ≡ chunk)
+    × (length arguments ≡ chunk)
+
+abbrev μ-loop : tie.MeasureT-loop
+μ-loop file from out₀ network₀ at₀ ordinal₀ next₀ kinds₀ arguments₀ out network at ordinal next kinds arguments = length file - at
+
+loop-holds : tie.Need-loop-holds Inv-loop μ-loop
+loop-holds c =
+    let start = c .before in
+    let pre = start .pre in
+    (starts (now (start .args .file)) (now (start .args .out)) (start .args .opened) (start .args .from) (pre .0) (pre .1) (pre .2) (pre .3) (pre .4), search needs, search needs)
+
+gather-requires : tie.Need-gather-requires Inv-loop μ-loop
+gather-requires c κs =
+    let inv = c .before .before .loop .inv in
+    (inv .0 .inside, inv .1, inv .2)
+
+array-share-prefix-kinds : tie.Need-array-share-prefix-kinds Inv-loop μ-loop
+array-share-prefix-kinds c =
+    let g = c .gather .ensures .gathers in
+    omega (arith, g .few, g .kinds-size)
+
+slice-aggregate-play : tie.Need-slice-aggregate-play Inv-loop μ-loop
+slice-aggregate-play c = kinds-lent (c .before .gather .ensures .gathers)
+
+array-share-prefix-arguments : tie.Need-array-share-prefix-arguments Inv-loop μ-loop
+array-share-prefix-arguments c =
+    let g = c .before .gather .ensures .gathers in
+    omega (arith, g .few, g .arguments-size)
+
+slice-aggregate-play-2 : tie.Need-slice-aggregate-play-2 Inv-loop μ-loop
+slice-aggregate-play-2 c = arguments-lent (c .before .before .gather .ensures .gathers)
+
+play-requires : tie.Need-play-requires Inv-loop μ-loop
+play-requires c κs =
+    let at-gather = c .before .before .before in
+    let run = at-gather .before .before .before .loop .inv .0 in
+    let g = at-gather .gather .ensures .gathers in
+    (run .formed, few-kinds g, as-many g, within run, chunk-room run g)
+
+add-ordinal : tie.Need-add-ordinal Inv-loop μ-loop
+add-ordinal c =
+    let at-gather = c .before .before .before .before .before in
+    let run = at-gather .before .before .before .loop .inv .0 in
+    record { fits = omega (arith, within run, at-gather .gather .ensures .gathers .few) }
+
+enum-told : tie.Need-enum-told Inv-loop μ-loop
+enum-told c = search needs
+
+loop-less : tie.Need-loop-less Inv-loop μ-loop
+loop-less c =
+    let at-gather = c .before .before .before .before .before .before .before in
+    let gathered = at-gather .gather .ensures in
+    let full = subst (Stopped _ _ _) (c .enum-told .given .1) (gathered .stopped) in
+    omega (arith, gathered .gathers .moved, gathered .gathers .inside, full)
+
+loop-again : tie.Need-loop-again Inv-loop μ-loop
+loop-again c =
+    let at-play = c .before .before .before in
+    let at-gather = at-play .before .before .before .before in
+    let run = at-gather .before .before .before .loop .inv .0 in
+    let g = at-gather .gather .ensures .gathers in
+    (goes-on run g (at-play .play .ensures), g .kinds-size, g .arguments-size)
+
+enum-told-2 : tie.Need-enum-told-2 Inv-loop μ-loop
+enum-told-2 c = search needs
+
+ending-requires : tie.Need-ending-requires Inv-loop μ-loop
+ending-requires c κs =
+    let at-told = c .before in
+    let at-play = at-told .before .before .before in
+    let at-gather = at-play .before .before .before .before in
+    let gathered = at-gather .gather .ensures in
+    let run = goes-on (at-gather .before .before .before .loop .inv .0) (gathered .gathers) (at-play .play .ensures) in
+    let stop = subst (Stopped _ _ _) (at-told .enum-told2 .given .1) (gathered .stopped) in
+    (room-all (ends run stop), few-nodes run)
+
+returns : tie.Need-returns Inv-loop μ-loop
+returns c =
+    let at-told = c .before .before in
+    let at-play = at-told .before .before .before in
+    let at-gather = at-play .before .before .before .before in
+    let gathered = at-gather .gather .ensures in
+    let run = goes-on (at-gather .before .before .before .loop .inv .0) (gathered .gathers) (at-play .play .ensures) in
+    let stop = subst (Stopped _ _ _) (at-told .enum-told2 .given .1) (gathered .stopped) in
+    last (ends run stop) (c .ending .ensures)
+
+enum-known-stop : tie.Need-enum-known-stop Inv-loop μ-loop
+enum-known-stop c = search needs
+
+spoilt-requires : tie.Need-spoilt-requires Inv-loop μ-loop
+spoilt-requires c κs =
+    let at-stop = c .before .before in
+    let at-play = at-stop .before .before .before in
+    let at-gather = at-play .before .before .before .before in
+    let gathered = at-gather .gather .ensures in
+    let run = goes-on (at-gather .before .before .before .loop .inv .0) (gathered .gathers) (at-play .play .ensures) in
+    let stop = subst (Stopped _ _ _) (at-stop .stop .given .1) (gathered .stopped) in
+    room _ _ (spoils run _ stop)
+
+ending-requires-2 : tie.Need-ending-requires-2 Inv-loop μ-loop
+ending-requires-2 c κs =
+    let at-spoilt = c .before in
+    let at-stop = at-spoilt .before .before .before in
+    let at-play = at-stop .before .before .before in
+    let at-gather = at-play .before .before .before .before in
+    let gathered = at-gather .gather .ensures in
+    let run = goes-on (at-gather .before .before .before .loop .inv .0) (gathered .gathers) (at-play .play .ensures) in
+    let stop = subst (Stopped _ _ _) (at-stop .stop .given .1) (gathered .stopped) in
+    (room-all (step _ _ (spoils run _ stop) (at-spoilt .spoilt .ensures)), few-nodes run)
+
+returns-2 : tie.Need-returns-2 Inv-loop μ-loop
+returns-2 c =
+    let at-spoilt = c .before .before in
+    let at-stop = at-spoilt .before .before .before in
+    let at-play = at-stop .before .before .before in
+    let at-gather = at-play .before .before .before .before in
+    let gathered = at-gather .gather .ensures in
+    let run = goes-on (at-gather .before .before .before .loop .inv .0) (gathered .gathers) (at-play .play .ensures) in
+    let stop = subst (Stopped _ _ _) (at-stop .stop .given .1) (gathered .stopped) in
+    last (step _ _ (spoils run _ stop) (at-spoilt .spoilt .ensures)) (c .ending2 .ensures)
+
+pub run-spec : {M : Type 1} → statement M
+run-spec =
+    tie.close
+    (tie.spec
+    Inv-loop
+    μ-loop
+    loop-holds
+    gather-requires
+    array-share-prefix-kinds
+    slice-aggregate-play
+    array-share-prefix-arguments
+    slice-aggregate-play-2
+    play-requires
+    add-ordinal
+    enum-told
+    loop-less
+    loop-again
+    enum-told-2
+    ending-requires
+    returns
+    enum-known-stop
+    spoilt-requires
+    ending-requires-2
+    returns-2)

@@ -1,0 +1,61 @@
+// The events of a file, chunk by chunk, and the last lines.
+use crate::chunk::CHUNK;
+use crate::chunk::Stop;
+use crate::chunk::gather;
+use crate::lines::ending;
+use crate::lines::spoilt;
+use crate::play::play;
+use network::Network;
+ghost use mathlib.Core.Path.{_≡_};
+ghost use mathlib.Core.Bool.{true};
+ghost use Prim.Native.Nat.{_≤_, _<_};
+ghost use lib.ListN.{length};
+ghost use Rattle.model.specs.Limits.{fileMost};
+ghost use Rattle.model.specs.Formed.{wellFormed};
+ghost use Rattle.model.specs.File.{readEvents};
+ghost use Rattle.model.specs.Text.{drillText};
+ghost use Rattle.network.specs.View.{view};
+ghost use Rattle.replay.specs.Puts.{Room, Put};
+
+// The text of the events from a position on, from a record just opened.
+pub(crate) fn run(
+    file: &[u8],
+    from: usize,
+    opened: Network,
+    out: &mut [u8; model::TEXT_MOST],
+) -> usize
+    requires { ⌜ (wellFormed (view opened) ≡ true) × (0 < from) × (from ≤ length (now file)) × (length (now file) ≤ fileMost) × Room (now out) 0 (drillText (view opened) (readEvents (now file) from)) ⌝ }
+    ensures { λ r. ⌜ Put (now (out .entry)) 0 (drillText (view opened) (readEvents (now (file .entry)) from)) r (now (out .exit)) ⌝ }
+{
+    let mut network = opened;
+    let mut at = from;
+    let mut ordinal: usize = 1;
+    let mut next: usize = 0;
+    let mut kinds = [0u32; CHUNK];
+    let mut arguments = [0u32; CHUNK];
+    loop {
+        let gathered = gather(file, at, &mut kinds, &mut arguments);
+        let count = gathered.count;
+        let stop = gathered.stop;
+        at = gathered.next;
+        let played = play(
+            network,
+            &kinds[..count],
+            &arguments[..count],
+            ordinal,
+            out,
+            next,
+        );
+        network = played.network;
+        next = played.next;
+        ordinal += count;
+        match stop {
+            Stop::More => {}
+            Stop::End => return ending(out, next, network),
+            Stop::Spoilt(place) => {
+                let last = spoilt(out, next, place);
+                return ending(out, last, network);
+            }
+        }
+    }
+}
