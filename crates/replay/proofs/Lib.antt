@@ -8,3 +8,5 @@ pub mod ChunkLines
 pub mod Tails
 pub mod Played
 pub mod Running
+pub mod Whole
+pub mod OneOutcome

@@ -4,3 +4,4 @@ pub mod Codes
 pub mod Lines
 pub mod Chunks
 pub mod Plays
+pub mod Texts

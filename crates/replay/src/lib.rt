@@ -5,3 +5,37 @@ mod lines;
 mod play;
 mod run;
 mod words;
+
+use drillfile::Cursor;
+ghost use mathlib.Core.Path.{_≡_};
+ghost use lib.ListN.{length};
+ghost use Rattle.replay.specs.Texts.{TextPost};
+
+// The answer numbers that decide what is written.
+const DONE: u32 = 0;
+
+const SPOILT: usize = 11;
+
+// The size of a part: a reference to an array does not tell it by itself.
+fn size(part: &[u8]) -> usize
+    ensures { λ r. ⌜ r ≡ length (now (part .entry)) ⌝ }
+{
+    part.len()
+}
+
+// The text of a file's bytes, at the front of a part that holds any text; the bytes after it stay.
+pub fn text(file: &[u8], out: &mut [u8; model::TEXT_MOST]) -> usize
+    ensures { λ r. ⌜ TextPost (now (file .entry)) (now (out .entry)) (now (out .exit)) r ⌝ }
+{
+    size(out);
+    if model::FILE < file.len() {
+        return lines::refused(out, 0, SPOILT, model::FILE);
+    }
+    let header = drillfile::read_header(file, Cursor { at: 0 });
+    let answer = header.answer;
+    if answer != DONE {
+        return lines::refused(out, 0, lines::wide(answer), header.place);
+    }
+    let next = header.next;
+    run::run(file, next.at, header.network, out)
+}

@@ -1,0 +1,85 @@
+-- The whole text in each case that the code tells apart. Assumes nothing.
+use Prim.Native.Nat.{ℕ, _+_, _≤_, _<_}
+use native.Mathlib.Nat.{zero-add}
+use native.Mathlib.Omega.{arith}
+use mathlib.Core.Path.{_≡_, sym, ap, ap₂, _∙_}
+use mathlib.Core.Bool.{true}
+use mathlib.Core.List.{List, _++_}
+use lib.ListN.{length, drop}
+use lib.Seq.{sets, sets-eq}
+use borrow.Author.Tests.{lt-ltb, le-ltb}
+use Rattle.model.specs.Limits.{fileMost, textMost}
+use Rattle.model.specs.Answers as answers
+use Rattle.model.specs.State.{State}
+use Rattle.model.specs.Formed.{wellFormed}
+use Rattle.model.specs.Number.{had, refused}
+use Rattle.model.specs.File.{Header, opening, readHeader, readEvents}
+use Rattle.model.specs.Text.{refusedLine, drillText, textFrom, drillOutput}
+use Rattle.model.proofs.Opened.{opening-formed}
+use Rattle.model.proofs.Had.{header-moves}
+use Rattle.model.proofs.TextFits.{text-fits}
+use Rattle.network.specs.View.{view}
+use Rattle.drillfile.specs.declared.answers.Headed.{Headed}
+use Rattle.drillfile.specs.Headers.{HeaderPost}
+use Rattle.drillfile.proofs.Told.{accepted-told, refused-told}
+use Rattle.replay.specs.Puts.{Room, Put}
+use Rattle.replay.specs.Texts.{TextPost}
+use Rattle.replay.proofs.Pending.{Pending, begin, say}
+
+module _ (file : List ℕ) where
+  too-long : fileMost < length file → drillOutput file ≡ refusedLine answers.spoilt fileMost
+  unfolding drillOutput
+  too-long h = rw (lt-ltb fileMost (length file) h)
+
+  by-header : length file ≤ fileMost → drillOutput file ≡ textFrom file (readHeader file 0)
+  unfolding drillOutput
+  by-header h = rw (le-ltb fileMost (length file) h)
+
+  module _ (out : List ℕ) (size : length out ≡ textMost) where
+    whole : Pending out 0 (drillOutput file) out 0 (drillOutput file)
+    whole = begin (record { size = size; fits = omega (arith, text-fits file) })
+
+    -- what is written at the front is the contract's text
+    pub text-put : {r : ℕ} {out′ : List ℕ} → Put out 0 (drillOutput file) r out′ → TextPost file out out′ r
+    text-put p =
+        let n = zero-add (length (drillOutput file)) in
+        record {
+          count = p .next ∙ n;
+          bytes = p .stores
+              ∙ sets-eq (drillOutput file) out 0 (omega (arith, text-fits file))
+              ∙ ap (λ i. drillOutput file ++ drop i out) n;
+        }
+
+    pub long : fileMost < length file → Pending out 0 (drillOutput file) out 0 (refusedLine answers.spoilt fileMost)
+    long h = say (too-long h) whole
+
+    module _ (short : length file ≤ fileMost) (r : Headed) (p : HeaderPost 0 (readHeader file 0) r) where
+      pub no-header : {answer : ℕ} → answer ≡ r .answer → (r .answer ≡ answers.done → ⊥)
+          → Pending out 0 (drillOutput file) out 0 (refusedLine answer (r .place))
+      no-header e n =
+          say
+          (by-header short
+          ∙ ap (textFrom file) (refused-told file 0 r p n .0)
+          ∙ ap (λ a. refusedLine a (r .place)) (sym e))
+          whole
+
+      module _ (z : r .answer ≡ answers.done) where
+        pub header : Pending out 0 (drillOutput file) out 0 (drillText (view (r .network)) (readEvents file (r .next .at)))
+        header =
+            let t = accepted-told file 0 r p z in
+            say
+            (by-header short
+            ∙ ap (textFrom file) (t .1)
+            ∙ ap (λ s. drillText s (readEvents file (r .next .at))) (sym (t .2)))
+            whole
+
+        pub header-formed : wellFormed (view (r .network)) ≡ true
+        header-formed =
+            let t = accepted-told file 0 r p z in
+            let h = t .0 in
+            ap wellFormed (t .2) ∙ opening-formed (h .nodes) (h .destination) (h .list)
+
+        pub header-read : (0 < r .next .at) × (r .next .at ≤ length file)
+        header-read =
+            let t = accepted-told file 0 r p z in
+            header-moves file 0 (t .0) (r .next .at) (t .1)
