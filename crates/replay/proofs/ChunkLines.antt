@@ -27,8 +27,9 @@ use Rattle.model.specs.Promises.{InRange}
 use Rattle.model.proofs.Below.{look, tab-at}
 use Rattle.model.proofs.Numbers.{never}
 use Rattle.model.proofs.Named.{few-lanes, named}
-use Rattle.network.specs.Calls.{made, call, calls, callAt, packetCode, wayCode, least, filled, Lists}
-use Rattle.network.proofs.Below.{length-tab}
+use Rattle.steps.specs.Call.{made, call}
+use Rattle.network.specs.Calls.{calls, callAt, packetCode, wayCode, least, filled, Lists}
+use Rattle.arrays.proofs.Below.{length-tab}
 use Rattle.network.proofs.Bursts.{calls-keep}
 use Rattle.replay.specs.Codes.{packetWord, wayWord, codeLine, codeLines, callLines}
 

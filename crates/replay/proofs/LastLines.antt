@@ -7,8 +7,9 @@ use Rattle.model.specs.Below.{tab}
 use Rattle.model.specs.Answers as answers
 use Rattle.model.specs.Text.{ascii, digits, line, spoiltLine, totalLine, turnsLine, refusedLine}
 use Rattle.network.specs.declared.record.Network.{Network}
-use Rattle.network.specs.View.{packetAt, view}
-use Rattle.network.proofs.Below.{tab-same, length-tab, used-in}
+use Rattle.arrays.specs.View.{packetAt}
+use Rattle.network.specs.View.{view}
+use Rattle.arrays.proofs.Below.{tab-same, length-tab, used-in}
 use Rattle.replay.specs.Lines.{row, endingOf}
 
 pub refused-row : (answer place : ℕ) → refusedLine answer place ≡ row (ascii "refused") (answer ∷ place ∷ []) 2

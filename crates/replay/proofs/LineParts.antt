@@ -7,7 +7,7 @@ use mathlib.Core.List.{List, [], _∷_, _++_}
 use lib.ListN.{length, getD}
 use Rattle.model.specs.Below.{tab}
 use Rattle.model.specs.Text.{ascii, digits, spaced, line}
-use Rattle.network.proofs.Below.{tab-same, length-tab}
+use Rattle.arrays.proofs.Below.{tab-same, length-tab}
 use Rattle.replay.specs.Puts.{Room, Put}
 use Rattle.replay.specs.Lines.{row}
 use Rattle.replay.proofs.Pending.{Pending, say, room, step, room-byte, last-byte}

@@ -13,7 +13,8 @@ use Rattle.model.specs.File.{kind, argument, ofKind, Reading}
 use Rattle.model.specs.History.{after}
 use Rattle.model.specs.Text.{eventLine, eventLines, spoiltLine, totalLine, turnsLine, drillText}
 use Rattle.model.proofs.Format.{of-kind}
-use Rattle.network.specs.Calls.{made, call, calls, callAt}
+use Rattle.steps.specs.Call.{made, call}
+use Rattle.network.specs.Calls.{calls, callAt}
 use Rattle.replay.specs.Lines.{endingOf}
 use Rattle.replay.specs.Codes.{callLines}
 use Rattle.replay.specs.Chunks.{Stand, behind}
