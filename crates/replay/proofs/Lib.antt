@@ -10,3 +10,4 @@ pub mod Played
 pub mod Running
 pub mod Whole
 pub mod OneOutcome
+pub mod Within
