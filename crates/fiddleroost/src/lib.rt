@@ -1,0 +1,10 @@
+// The static library: what a program in C or Rust can call. include/fiddleroost.h says what such a caller owes.
+ghost use Rattle.replay.specs.Texts.{TextPost};
+
+// The text of a file's bytes, as `replay::text` writes it, and its length.
+#[no_mangle]
+pub extern "C" fn fiddleroost_text(file: &[u8], out: &mut [u8; model::TEXT_MOST]) -> usize
+    ensures { λ r. ⌜ TextPost (now (file .entry)) (now (out .entry)) (now (out .exit)) r ⌝ }
+{
+    replay::text(file, out)
+}
