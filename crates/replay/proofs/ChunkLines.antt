@@ -1,26 +1,24 @@
 -- The lines of a chunk: by codes, by calls, by events. Assumes nothing.
 use Prim.Native.Nat.{ℕ, zero, suc, _+_, _-_, _≤_, _<_}
-use native.Mathlib.Nat.{add-zero}
 use native.Mathlib.Omega.{arith}
 use mathlib.Core.Path.{_≡_, refl, sym, ap, ap₂, _∙_}
 use mathlib.Core.Logic.{inl, inr}
-use mathlib.Core.Bool.{true, cond}
-use mathlib.Core.List.{List, [], _∷_, _++_, append-assoc}
+use mathlib.Core.Bool.{true}
+use mathlib.Core.List.{List, [], _∷_, _++_}
 use mathlib.Core.Option.{Option, none, some}
 use lib.Dec.{ltb, leb}
-use lib.ListN.{length, getD, drop, List·getD-append}
-use borrow.Author.Tests.{lt-ltb, ltb-true, ltb-false, ne-eqb}
+use lib.ListN.{getD, drop, List·getD-append}
+use borrow.Author.Tests.{lt-ltb, ltb-false, ne-eqb}
 use Rattle.model.specs.declared.Handled.{Handled}
 use Rattle.model.specs.declared.Handled.the-variants as handled
 use Rattle.model.specs.declared.Went.{Went}
 use Rattle.model.specs.declared.Went.the-variants as went
 use Rattle.model.specs.Limits.{endsMost, eventsMost}
-use Rattle.model.specs.Answers as answers
 use Rattle.model.specs.Below.{tab}
-use Rattle.model.specs.State.{State, lanes}
+use Rattle.model.specs.State.{State}
 use Rattle.model.specs.Formed.{wellFormed}
-use Rattle.model.specs.Outcome.{Outcome, refuse, accepting}
-use Rattle.model.specs.Events.{Event, event}
+use Rattle.model.specs.Outcome.{Outcome, accepting}
+use Rattle.model.specs.Events.{Event}
 use Rattle.model.specs.File.{ofKind}
 use Rattle.model.specs.Text.{digits, handledWord, wentWord, line, eventLine}
 use Rattle.model.specs.Promises.{InRange}

@@ -2,21 +2,22 @@
 use Prim.Native.Nat.{ℕ, suc, _+_, _≤_, _<_}
 use native.Mathlib.Nat.{add-zero}
 use native.Mathlib.Omega.{arith}
-use mathlib.Core.Path.{_≡_, refl, sym, ap, _∙_}
+use mathlib.Core.Path.{_≡_, refl, sym, ap, _∙_, subst}
 use mathlib.Core.List.{List, [], _∷_, _++_, append-assoc}
 use mathlib.Core.Option.{none, some}
 use lib.ListN.{length, getD, set, take, length-set, length-append}
 use lib.Seq.{getD-set-same, getD-set-other, getD-take}
-use Rattle.model.specs.Answers as answers
 use Rattle.model.specs.Events.{Event}
-use Rattle.model.specs.Number.{had, refused}
-use Rattle.model.specs.File.{kind, argument, readEvent, andMore, Reading, readEvents}
+use Rattle.model.specs.Number.{had}
+use Rattle.model.specs.File.{kind, argument, readEvent, andMore, readEvents}
 use Rattle.model.proofs.Had.{event-moves, unfueled}
 use Rattle.drillfile.specs.declared.answers.Cursor.{Cursor}
 use Rattle.drillfile.specs.declared.answers.Got.the-variants as got
 use Rattle.drillfile.specs.Outcomes.{seen, eventAt}
 use Rattle.drillfile.proofs.Told.{event-told, end-told, spoilt-told}
-use Rattle.replay.specs.Chunks.{chunk, Stand, behind, Gathers}
+use Rattle.replay.specs.declared.chunk.Stop.{Stop}
+use Rattle.replay.specs.declared.chunk.Gathered.{Gathered}
+use Rattle.replay.specs.Chunks.{chunk, Stand, behind, Gathers, Stopped, stoppedAt, GatherPost}
 
 -- stores past the events leave them
 stand-set : (es : List Event) (kinds arguments : List ℕ) (i j k a : ℕ) → i + length es ≤ j → Stand es kinds arguments i
@@ -96,3 +97,8 @@ module _ (file : List ℕ) (from : ℕ) where
             ∙ ap (behind es) (reads-event file at e (n .at) (t .1))
             ∙ ap (λ l. record { events = l; spoilt = readEvents file (n .at) .spoilt }) (sym (append-assoc es (e ∷ []) (readEvents file (n .at) .events)));
       }
+
+pub gathered : {file kinds arguments : List ℕ} {from count next : ℕ} {r : Gathered} (stop : Stop) → r ≡ stoppedAt count next stop
+    → Gathers file from kinds arguments count next → Stopped file count next stop → GatherPost file from kinds arguments r
+gathered {file} {kinds} {arguments} {from} stop e g s =
+    subst (GatherPost file from kinds arguments) (sym e) (record { gathers = g; stopped = s })

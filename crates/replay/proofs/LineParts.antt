@@ -1,13 +1,13 @@
 -- Lines part by part. Assumes nothing.
-use Prim.Native.Nat.{ℕ, zero, suc, _+_, _-_, _≤_, _<_}
+use Prim.Native.Nat.{ℕ, suc, _+_, _-_, _≤_, _<_}
 use native.Mathlib.Nat.{zero-add}
 use native.Mathlib.Omega.{arith}
 use mathlib.Core.Path.{_≡_, refl, sym, ap, _∙_}
 use mathlib.Core.List.{List, [], _∷_, _++_}
-use lib.ListN.{length, getD}
+use lib.ListN.{getD}
 use Rattle.model.specs.Below.{tab}
 use Rattle.model.specs.Text.{ascii, digits, spaced, line}
-use Rattle.arrays.proofs.Below.{tab-same, length-tab}
+use Rattle.arrays.proofs.Below.{tab-same}
 use Rattle.replay.specs.Puts.{Room, Put}
 use Rattle.replay.specs.Lines.{row}
 use Rattle.replay.proofs.Pending.{Pending, say, room, step, room-byte, last-byte}

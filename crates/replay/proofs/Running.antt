@@ -1,31 +1,29 @@
 -- The text of a file's events, chunk by chunk. Assumes nothing.
-use Prim.Native.Nat.{ℕ, _+_, _≤_, _<_}
+use Prim.Native.Nat.{ℕ, _+_, _≤_}
 use native.Mathlib.Omega.{arith}
-use mathlib.Core.Path.{_≡_, sym, ap, _∙_, subst}
+use mathlib.Core.Path.{_≡_, sym, ap, _∙_}
 use mathlib.Core.Bool.{true}
 use mathlib.Core.List.{List, [], _++_}
 use mathlib.Core.Option.{none, some}
 use lib.ListN.{length, take}
 use lib.Seq.{length-take-le}
 use Rattle.model.specs.Limits.{nodesMost, fileMost}
-use Rattle.model.specs.State.{State}
 use Rattle.model.specs.Formed.{wellFormed}
 use Rattle.model.specs.File.{readEvents}
-use Rattle.model.specs.Text.{spoiltLine, drillText}
+use Rattle.model.specs.Text.{spoiltLine}
 use Rattle.model.proofs.Format.{sizes-small}
 use Rattle.model.proofs.Formed.{formed-if}
 use Rattle.network.specs.declared.record.Network.{Network}
 use Rattle.network.specs.View.{view}
 use Rattle.network.specs.Calls.{calls}
 use Rattle.network.proofs.Bursts.{calls-keep}
-use Rattle.replay.specs.declared.chunk.Stop.{Stop}
-use Rattle.replay.specs.declared.chunk.Stop.the-variants.{More, End, Spoilt}
 use Rattle.replay.specs.declared.play.Played.{Played}
-use Rattle.replay.specs.Puts.{Room, Put}
+use Rattle.replay.specs.Puts.{Room}
 use Rattle.replay.specs.Lines.{endingOf}
 use Rattle.replay.specs.Codes.{callLines}
-use Rattle.replay.specs.Chunks.{chunk, Gathers, Stopped}
+use Rattle.replay.specs.Chunks.{chunk, Gathers}
 use Rattle.replay.specs.Plays.{PlayPost}
+use Rattle.replay.specs.Runs.{textOf, RunPre}
 use Rattle.replay.proofs.Pending.{Pending, begin, say, room, step}
 use Rattle.replay.proofs.Chunks.{stand-take}
 use Rattle.replay.proofs.Tails.{tail, tail-whole, tail-end, tail-spoilt, tail-chunk}
@@ -38,15 +36,14 @@ pub record Running (file l whole out : List ℕ) (n : Network) (at ordinal next 
   pub counted : ordinal ≤ at
   pub pending : Pending l 0 whole out next (tail ordinal (view n) (readEvents file at))
 
-pub starts : (file out : List ℕ) (n : Network) (at : ℕ) → wellFormed (view n) ≡ true → 0 < at → at ≤ length file → length file ≤ fileMost
-    → Room out 0 (drillText (view n) (readEvents file at)) → Running file out (drillText (view n) (readEvents file at)) out n at 1 0
-starts file out n at w z i f r =
+pub starts : (file out : List ℕ) (n : Network) (at : ℕ) → RunPre file at n out → Running file out (textOf file at n) out n at 1 0
+starts file out n at p =
     record {
-      formed = w;
-      inside = i;
-      short = f;
-      counted = omega arith;
-      pending = say (tail-whole (view n) (readEvents file at)) (begin r);
+      formed = p .formed;
+      inside = p .inside;
+      short = p .short;
+      counted = omega (arith, p .past);
+      pending = say (tail-whole (view n) (readEvents file at)) (begin (p .room));
     }
 
 -- the lists that a chunk lends

@@ -2,14 +2,14 @@
 use Prim.Native.Nat.{ℕ, suc, _+_}
 use native.Mathlib.Nat.{add-zero, zero-add}
 use native.Mathlib.Omega.{arith}
-use mathlib.Core.Path.{_≡_, refl, sym, ap, ap₂, _∙_}
+use mathlib.Core.Path.{_≡_, sym, ap, ap₂, _∙_}
 use mathlib.Core.List.{List, [], _∷_, _++_, append-assoc}
 use mathlib.Core.Option.{none, some}
-use lib.ListN.{length, getD}
+use lib.ListN.{length}
 use Rattle.model.specs.State.{State}
 use Rattle.model.specs.Outcome.{Outcome}
 use Rattle.model.specs.Events.{Event, event}
-use Rattle.model.specs.File.{kind, argument, ofKind, Reading}
+use Rattle.model.specs.File.{kind, argument, Reading}
 use Rattle.model.specs.History.{after}
 use Rattle.model.specs.Text.{eventLine, eventLines, spoiltLine, totalLine, turnsLine, drillText}
 use Rattle.model.proofs.Format.{of-kind}

@@ -2,29 +2,26 @@
 use Prim.Native.Nat.{ℕ, _+_, _≤_, _<_}
 use native.Mathlib.Nat.{zero-add}
 use native.Mathlib.Omega.{arith}
-use mathlib.Core.Path.{_≡_, sym, ap, ap₂, _∙_}
-use mathlib.Core.Bool.{true}
+use mathlib.Core.Path.{_≡_, sym, ap, _∙_}
 use mathlib.Core.List.{List, _++_}
 use lib.ListN.{length, drop}
-use lib.Seq.{sets, sets-eq}
+use lib.Seq.{sets-eq}
 use borrow.Author.Tests.{lt-ltb, le-ltb}
 use Rattle.model.specs.Limits.{fileMost, textMost}
 use Rattle.model.specs.Answers as answers
-use Rattle.model.specs.State.{State}
 use Rattle.model.specs.Formed.{wellFormed}
-use Rattle.model.specs.Number.{had, refused}
-use Rattle.model.specs.File.{Header, opening, readHeader, readEvents}
+use Rattle.model.specs.File.{readHeader, readEvents}
 use Rattle.model.specs.Text.{refusedLine, drillText, textFrom, drillOutput}
 use Rattle.model.proofs.Opened.{opening-formed}
 use Rattle.model.proofs.Had.{header-moves}
 use Rattle.model.proofs.TextFits.{text-fits}
-use Rattle.network.specs.View.{view}
 use Rattle.drillfile.specs.declared.answers.Headed.{Headed}
 use Rattle.drillfile.specs.Headers.{HeaderPost}
 use Rattle.drillfile.proofs.Told.{accepted-told, refused-told}
-use Rattle.replay.specs.Puts.{Room, Put}
+use Rattle.replay.specs.Puts.{Put}
+use Rattle.replay.specs.Runs.{textOf, RunPre}
 use Rattle.replay.specs.Texts.{TextPost}
-use Rattle.replay.proofs.Pending.{Pending, begin, say}
+use Rattle.replay.proofs.Pending.{Pending, begin, say, room-all}
 
 module _ (file : List ℕ) where
   too-long : fileMost < length file → drillOutput file ≡ refusedLine answers.spoilt fileMost
@@ -64,7 +61,7 @@ module _ (file : List ℕ) where
           whole
 
       module _ (z : r .answer ≡ answers.done) where
-        pub header : Pending out 0 (drillOutput file) out 0 (drillText (view (r .network)) (readEvents file (r .next .at)))
+        pub header : Pending out 0 (drillOutput file) out 0 (textOf file (r .next .at) (r .network))
         header =
             let t = accepted-told file 0 r p z in
             say
@@ -73,13 +70,15 @@ module _ (file : List ℕ) where
             ∙ ap (λ s. drillText s (readEvents file (r .next .at))) (sym (t .2)))
             whole
 
-        pub header-formed : wellFormed (view (r .network)) ≡ true
-        header-formed =
+        pub runs : RunPre file (r .next .at) (r .network) out
+        runs =
             let t = accepted-told file 0 r p z in
             let h = t .0 in
-            ap wellFormed (t .2) ∙ opening-formed (h .nodes) (h .destination) (h .list)
-
-        pub header-read : (0 < r .next .at) × (r .next .at ≤ length file)
-        header-read =
-            let t = accepted-told file 0 r p z in
-            header-moves file 0 (t .0) (r .next .at) (t .1)
+            let moves = header-moves file 0 h (r .next .at) (t .1) in
+            record {
+              formed = ap wellFormed (t .2) ∙ opening-formed (h .nodes) (h .destination) (h .list);
+              past = moves .0;
+              inside = moves .1;
+              short = short;
+              room = room-all header;
+            }

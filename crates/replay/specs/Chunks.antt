@@ -41,6 +41,9 @@ Stopped file count at More = count ≡ chunk
 Stopped file count at End = readEvents file at ≡ record { events = []; spoilt = none }
 Stopped file count at (Spoilt place) = readEvents file at ≡ record { events = []; spoilt = some place }
 
+abbrev pub stoppedAt : ℕ → ℕ → Stop → Gathered
+stoppedAt count next stop = record { count = count; next = next; stop = stop }
+
 pub record GatherPost (file : List ℕ) (from : ℕ) (kinds arguments : List ℕ) (r : Gathered) : Type 0 where
   pub gathers : Gathers file from kinds arguments (r .count) (r .next)
   pub stopped : Stopped file (r .count) (r .next) (r .stop)

@@ -4,4 +4,5 @@ pub mod Codes
 pub mod Lines
 pub mod Chunks
 pub mod Plays
+pub mod Runs
 pub mod Texts

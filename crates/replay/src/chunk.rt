@@ -4,7 +4,7 @@ use drillfile::Got;
 ghost use mathlib.Core.Path.{_≡_};
 ghost use Prim.Native.Nat.{_≤_};
 ghost use lib.ListN.{length};
-ghost use Rattle.replay.specs.Chunks.{chunk, GatherPost};
+ghost use Rattle.replay.specs.Chunks.{chunk, stoppedAt, GatherPost};
 
 pub(crate) const CHUNK: usize = 256;
 
@@ -19,6 +19,12 @@ pub(crate) struct Gathered {
     pub count: usize,
     pub next: usize,
     pub stop: Stop,
+}
+
+fn stopped(count: usize, next: usize, stop: Stop) -> Gathered
+    ensures { λ r. ⌜ r ≡ stoppedAt count next stop ⌝ }
+{
+    Gathered { count, next, stop }
 }
 
 // The events from a position on, by kind and argument, until the lists are full.
@@ -45,25 +51,9 @@ pub(crate) fn gather(
                 at = next.at;
                 i += 1;
             }
-            Got::End(_) => {
-                return Gathered {
-                    count: i,
-                    next: at,
-                    stop: Stop::End,
-                };
-            }
-            Got::Spoilt(place, _) => {
-                return Gathered {
-                    count: i,
-                    next: at,
-                    stop: Stop::Spoilt(place),
-                };
-            }
+            Got::End(_) => return stopped(i, at, Stop::End),
+            Got::Spoilt(place, _) => return stopped(i, at, Stop::Spoilt(place)),
         }
     }
-    Gathered {
-        count: i,
-        next: at,
-        stop: Stop::More,
-    }
+    stopped(i, at, Stop::More)
 }

@@ -1,6 +1,7 @@
 // A drill file in, the program's whole text out.
 mod chunk;
 mod digits;
+mod fields;
 mod lines;
 mod play;
 mod run;
@@ -11,10 +12,7 @@ ghost use mathlib.Core.Path.{_≡_};
 ghost use lib.ListN.{length};
 ghost use Rattle.replay.specs.Texts.{TextPost};
 
-// The answer numbers that decide what is written.
 const DONE: u32 = 0;
-
-const SPOILT: usize = 11;
 
 // The size of a part: a reference to an array does not tell it by itself.
 fn size(part: &[u8]) -> usize
@@ -29,12 +27,12 @@ pub fn text(file: &[u8], out: &mut [u8; model::TEXT_MOST]) -> usize
 {
     size(out);
     if model::FILE < file.len() {
-        return lines::refused(out, 0, SPOILT, model::FILE);
+        return lines::refused(out, 0, lines::SPOILT, model::FILE);
     }
     let header = drillfile::read_header(file, Cursor { at: 0 });
     let answer = header.answer;
     if answer != DONE {
-        return lines::refused(out, 0, lines::wide(answer), header.place);
+        return lines::refused(out, 0, fields::wide(answer), header.place);
     }
     let next = header.next;
     run::run(file, next.at, header.network, out)

@@ -1,76 +1,26 @@
 // The lines of the text.
 use crate::digits::number;
+use crate::fields::count;
+use crate::fields::field;
+use crate::fields::packet;
+use crate::fields::way;
+use crate::fields::wide;
 use crate::words::byte;
 use crate::words::word;
 use network::Network;
-ghost use mathlib.Core.Path.{_≡_};
 ghost use mathlib.Core.List.{_++_};
 ghost use mathlib.Core.Option.{some};
 ghost use Prim.Native.Nat.{_≤_};
 ghost use lib.ListN.{length};
 ghost use Rattle.model.specs.Limits.{nodesMost};
-ghost use Rattle.model.specs.Text.{ascii, digits, spoiltLine, refusedLine};
+ghost use Rattle.model.specs.Text.{ascii, spoiltLine, refusedLine};
 ghost use Rattle.network.specs.View.{view};
 ghost use Rattle.replay.specs.Puts.{Room, Put};
-ghost use Rattle.replay.specs.Codes.{packetWord, wayWord, codeLine};
+ghost use Rattle.replay.specs.Codes.{codeLine};
 ghost use Rattle.replay.specs.Lines.{row, endingOf};
 
-const SPOILT: usize = 11;
-
-// A count as a number of the text.
-pub(crate) fn wide(x: u32) -> usize
-    ensures { λ r. ⌜ r ≡ x ⌝ }
-{
-    x as usize
-}
-
-// A space and a number.
-fn field(out: &mut [u8; model::TEXT_MOST], at: usize, n: usize) -> usize
-    requires { ⌜ Room (now out) at (ascii " " ++ digits n) ⌝ }
-    ensures { λ r. ⌜ Put (now (out .entry)) at (ascii " " ++ digits n) r (now (out .exit)) ⌝ }
-{
-    let next = byte(out, at, b' ');
-    number(out, next, n)
-}
-
-// A space and a count.
-fn count(out: &mut [u8; model::TEXT_MOST], at: usize, n: u32) -> usize
-    requires { ⌜ Room (now out) at (ascii " " ++ digits n) ⌝ }
-    ensures { λ r. ⌜ Put (now (out .entry)) at (ascii " " ++ digits n) r (now (out .exit)) ⌝ }
-{
-    field(out, at, wide(n))
-}
-
-// A space and a packet, by its code.
-fn packet(out: &mut [u8; model::TEXT_MOST], at: usize, code: u32) -> usize
-    requires { ⌜ Room (now out) at (ascii " " ++ packetWord code) ⌝ }
-    ensures { λ r. ⌜ Put (now (out .entry)) at (ascii " " ++ packetWord code) r (now (out .exit)) ⌝ }
-{
-    if code == model::EVENTS {
-        return word(out, at, b" -");
-    }
-    count(out, at, code)
-}
-
-// A space and where a packet went, by its code.
-fn way(out: &mut [u8; model::TEXT_MOST], at: usize, code: usize) -> usize
-    requires { ⌜ Room (now out) at (ascii " " ++ wayWord code) ⌝ }
-    ensures { λ r. ⌜ Put (now (out .entry)) at (ascii " " ++ wayWord code) r (now (out .exit)) ⌝ }
-{
-    if code < model::ENDS {
-        return field(out, at, code);
-    }
-    if code == model::ENDS {
-        return word(out, at, b" in");
-    }
-    if code == model::ENDS + 1 {
-        return word(out, at, b" lost");
-    }
-    if code == model::ENDS + 2 {
-        return word(out, at, b" end");
-    }
-    word(out, at, b" -")
-}
+// The answer number of a spoilt file.
+pub(crate) const SPOILT: usize = 11;
 
 pub(crate) fn event(
     out: &mut [u8; model::TEXT_MOST],
@@ -118,14 +68,6 @@ pub(crate) fn refused(
     row(out, at, b"refused", &list)
 }
 
-pub(crate) fn spoilt(out: &mut [u8; model::TEXT_MOST], at: usize, place: usize) -> usize
-    requires { ⌜ Room (now out) at (spoiltLine (some place)) ⌝ }
-    ensures { λ r. ⌜ Put (now (out .entry)) at (spoiltLine (some place)) r (now (out .exit)) ⌝ }
-{
-    let list = [SPOILT, place];
-    row(out, at, b"spoilt", &list)
-}
-
 fn turns(
     out: &mut [u8; model::TEXT_MOST],
     at: usize,
@@ -159,4 +101,14 @@ pub(crate) fn ending(out: &mut [u8; model::TEXT_MOST], at: usize, n: Network) ->
     ];
     let next = row(out, at, b"total", &total);
     turns(out, next, &n.turns, n.nodes)
+}
+
+// The line of a spoilt event, then the last two.
+pub(crate) fn spoilt(out: &mut [u8; model::TEXT_MOST], at: usize, place: usize, n: Network) -> usize
+    requires { ⌜ Room (now out) at (spoiltLine (some place) ++ endingOf (view n)) × (n .nodes ≤ nodesMost) ⌝ }
+    ensures { λ r. ⌜ Put (now (out .entry)) at (spoiltLine (some place) ++ endingOf (view n)) r (now (out .exit)) ⌝ }
+{
+    let list = [SPOILT, place];
+    let next = row(out, at, b"spoilt", &list);
+    ending(out, next, n)
 }

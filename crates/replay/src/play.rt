@@ -2,17 +2,12 @@
 use crate::chunk::CHUNK;
 use crate::lines::event;
 use network::Network;
-ghost use mathlib.Core.Path.{_≡_};
-ghost use mathlib.Core.Bool.{true};
 ghost use Prim.Native.Nat.{_≤_};
-ghost use lib.ListN.{length};
 ghost use Rattle.model.specs.Limits.{fileMost};
-ghost use Rattle.model.specs.Formed.{wellFormed};
-ghost use Rattle.network.specs.View.{view};
 ghost use Rattle.replay.specs.Puts.{Room, Put};
-ghost use Rattle.replay.specs.Codes.{codeLines, callLines};
+ghost use Rattle.replay.specs.Codes.{codeLines};
 ghost use Rattle.replay.specs.Chunks.{chunk};
-ghost use Rattle.replay.specs.Plays.{PlayPost};
+ghost use Rattle.replay.specs.Plays.{PlayPre, PlayPost};
 
 // The record after a chunk, and the position after its lines.
 pub(crate) struct Played {
@@ -51,7 +46,7 @@ pub(crate) fn play<'a>(
     out: &mut [u8; model::TEXT_MOST],
     at: usize,
 ) -> Played
-    requires { ⌜ (wellFormed (view network) ≡ true) × (length (now kinds) ≤ chunk) × (length (now arguments) ≡ length (now kinds)) × (ordinal ≤ fileMost) × Room (now out) at (callLines (view network) (now kinds) (now arguments) ordinal 0 (length (now kinds))) ⌝ }
+    requires { ⌜ PlayPre network (now kinds) (now arguments) ordinal (now out) at ⌝ }
     ensures { λ r. ⌜ PlayPost network (now (kinds .entry)) (now (arguments .entry)) ordinal (now (out .entry)) at (now (out .exit)) r ⌝ }
 {
     let mut answers = [0u32; CHUNK];

@@ -6,16 +6,8 @@ use crate::lines::ending;
 use crate::lines::spoilt;
 use crate::play::play;
 use network::Network;
-ghost use mathlib.Core.Path.{_≡_};
-ghost use mathlib.Core.Bool.{true};
-ghost use Prim.Native.Nat.{_≤_, _<_};
-ghost use lib.ListN.{length};
-ghost use Rattle.model.specs.Limits.{fileMost};
-ghost use Rattle.model.specs.Formed.{wellFormed};
-ghost use Rattle.model.specs.File.{readEvents};
-ghost use Rattle.model.specs.Text.{drillText};
-ghost use Rattle.network.specs.View.{view};
-ghost use Rattle.replay.specs.Puts.{Room, Put};
+ghost use Rattle.replay.specs.Puts.{Put};
+ghost use Rattle.replay.specs.Runs.{textOf, RunPre};
 
 // The text of the events from a position on, from a record just opened.
 pub(crate) fn run(
@@ -24,8 +16,8 @@ pub(crate) fn run(
     opened: Network,
     out: &mut [u8; model::TEXT_MOST],
 ) -> usize
-    requires { ⌜ (wellFormed (view opened) ≡ true) × (0 < from) × (from ≤ length (now file)) × (length (now file) ≤ fileMost) × Room (now out) 0 (drillText (view opened) (readEvents (now file) from)) ⌝ }
-    ensures { λ r. ⌜ Put (now (out .entry)) 0 (drillText (view opened) (readEvents (now (file .entry)) from)) r (now (out .exit)) ⌝ }
+    requires { ⌜ RunPre (now file) from opened (now out) ⌝ }
+    ensures { λ r. ⌜ Put (now (out .entry)) 0 (textOf (now (file .entry)) from opened) r (now (out .exit)) ⌝ }
 {
     let mut network = opened;
     let mut at = from;
@@ -52,10 +44,7 @@ pub(crate) fn run(
         match stop {
             Stop::More => {}
             Stop::End => return ending(out, next, network),
-            Stop::Spoilt(place) => {
-                let last = spoilt(out, next, place);
-                return ending(out, last, network);
-            }
+            Stop::Spoilt(place) => return spoilt(out, next, place, network),
         }
     }
 }

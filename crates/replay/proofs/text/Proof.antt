@@ -2,7 +2,7 @@
 use borrow.Author.Needs.{needs}
 use denote.Ref.{now}
 use Rattle.replay.proofs.Pending.{room-all, last}
-use Rattle.replay.proofs.Whole.{text-put, long, no-header, header, header-formed, header-read}
+use Rattle.replay.proofs.Whole.{text-put, long, no-header, header, runs}
 use Rattle.replay.proofs.text.Statement.{statement}
 use Rattle.replay.proofs.text.Tie as tie
 
@@ -66,13 +66,7 @@ run-requires c κs =
     let size = at-size .size-arg2 .given .0 in
     let r = at-header .read-header .result in
     let post = at-header .read-header .ensures in
-    let read = header-read (now (a .file)) (now (a .out)) size (at-if .if1 .left) r post (at-two .if2 .left) in (
-      header-formed (now (a .file)) (now (a .out)) size (at-if .if1 .left) r post (at-two .if2 .left),
-      read .0,
-      read .1,
-      at-if .if1 .left,
-      room-all (header (now (a .file)) (now (a .out)) size (at-if .if1 .left) r post (at-two .if2 .left)),
-    )
+    runs (now (a .file)) (now (a .out)) size (at-if .if1 .left) r post (at-two .if2 .left)
 
 returns-3 : tie.Need-returns-3
 returns-3 c =

@@ -1,12 +1,13 @@
 -- The events passed are gathered. Assumes nothing.
-use Prim.Native.Nat.{_-_, _≤_}
+use Prim.Native.Nat.{_-_}
 use native.Mathlib.Omega.{arith}
-use mathlib.Core.Path.{refl, sym, ap, _∙_}
+use mathlib.Core.Path.{sym, ap, _∙_}
 use denote.Ref.{now}
 use borrow.Author.Needs.{needs}
 use Rattle.drillfile.specs.Outcomes.{seen}
+use Rattle.replay.specs.declared.chunk.Stop.the-variants.{More, End, Spoilt}
 use Rattle.replay.specs.Chunks.{chunk, Gathers}
-use Rattle.replay.proofs.Chunks.{gathers-none, gathers-more, reads-end, reads-spoilt}
+use Rattle.replay.proofs.Chunks.{gathers-none, gathers-more, reads-end, reads-spoilt, gathered}
 use Rattle.replay.proofs.chunk.gather.Statement.{statement}
 use Rattle.replay.proofs.chunk.gather.Tie as tie
 
@@ -59,34 +60,41 @@ loop-again c =
 enum-told : tie.Need-enum-told Inv-loop μ-loop
 enum-told c = search needs
 
+stopped-requires : tie.Need-stopped-requires Inv-loop μ-loop
+stopped-requires c κs = search needs
+
 returns : tie.Need-returns Inv-loop μ-loop
 returns c =
-    let at-read = c .before .before in
+    let told = c .before in
+    let at-read = told .before .before in
     let loop = at-read .before .before in
     let start = loop .before .before in
-    record {
-      gathers = loop .loop .inv;
-      stopped = reads-end (now (start .args .file)) (loop .loop .at) _ (ap seen (sym (c .enum-told .given .1)) ∙ at-read .read-event .ensures);
-    }
+    gathered End (c .stopped .ensures) (loop .loop .inv)
+    (reads-end (now (start .args .file)) (loop .loop .at) _ (ap seen (sym (told .enum-told .given .1)) ∙ at-read .read-event .ensures))
 
 enum-known-place : tie.Need-enum-known-place Inv-loop μ-loop
 enum-known-place c = search needs
 
+stopped-requires-2 : tie.Need-stopped-requires-2 Inv-loop μ-loop
+stopped-requires-2 c κs = search needs
+
 returns-2 : tie.Need-returns-2 Inv-loop μ-loop
 returns-2 c =
-    let at-place = c .before in
+    let at-place = c .before .before in
     let at-read = at-place .before .before in
     let loop = at-read .before .before in
     let start = loop .before .before in
-    record {
-      gathers = loop .loop .inv;
-      stopped = reads-spoilt (now (start .args .file)) (loop .loop .at) _ _ (ap seen (sym (at-place .place .given .1)) ∙ at-read .read-event .ensures);
-    }
+    gathered (Spoilt _) (c .stopped2 .ensures) (loop .loop .inv)
+    (reads-spoilt (now (start .args .file)) (loop .loop .at) _ _ (ap seen (sym (at-place .place .given .1)) ∙ at-read .read-event .ensures))
+
+stopped-requires-3 : tie.Need-stopped-requires-3 Inv-loop μ-loop
+stopped-requires-3 c κs = search needs
 
 returns-3 : tie.Need-returns-3 Inv-loop μ-loop
 returns-3 c =
-    let inv = c .before .loop .inv in
-    record { gathers = inv; stopped = omega (arith, c .loop-test .left, inv .few) }
+    let test = c .before in
+    let inv = test .before .loop .inv in
+    gathered More (c .stopped3 .ensures) inv (omega (arith, test .loop-test .left, inv .few))
 
 pub gather-spec : {M : Type 1} → statement M
 gather-spec =
@@ -105,7 +113,10 @@ gather-spec =
     loop-less
     loop-again
     enum-told
+    stopped-requires
     returns
     enum-known-place
+    stopped-requires-2
     returns-2
+    stopped-requires-3
     returns-3)

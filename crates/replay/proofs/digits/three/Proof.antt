@@ -1,5 +1,4 @@
 -- The digits one after the other. Assumes nothing.
-use denote.Ref.{now}
 use borrow.Author.Needs.{needs}
 use Rattle.replay.proofs.Pending.{begin, say, room-byte, step-byte, last-byte}
 use Rattle.replay.proofs.Decimals.{three-are}

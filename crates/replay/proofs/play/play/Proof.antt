@@ -23,8 +23,8 @@ lines-requires c κs =
     let at-burst = c .before .before .before .before .before .before .before in
     let start = at-burst .before .before .before .before .before .before in
     let pre = start .pre in
-    let lines = played-lines (at-burst .burst .ensures) (pre .1) (pre .2) (omega arith, omega arith, omega arith) (pre .0) (start .args .ordinal) in
-    (room-all (say lines (begin (pre .4))), pre .1, pre .3)
+    let lines = played-lines (at-burst .burst .ensures) (pre .few) (pre .same) (omega arith, omega arith, omega arith) (pre .formed) (start .args .ordinal) in
+    (room-all (say lines (begin (pre .room))), pre .few, pre .early)
 
 returns : tie.Need-returns
 returns c =
@@ -32,10 +32,10 @@ returns c =
     let at-burst = at-lines .before .before .before .before .before .before .before .before in
     let start = at-burst .before .before .before .before .before .before in
     let pre = start .pre in
-    let lines = played-lines (at-burst .burst .ensures) (pre .1) (pre .2) (omega arith, omega arith, omega arith) (pre .0) (start .args .ordinal) in
+    let lines = played-lines (at-burst .burst .ensures) (pre .few) (pre .same) (omega arith, omega arith, omega arith) (pre .formed) (start .args .ordinal) in
     record {
-      state = played-state (at-burst .burst .ensures) (pre .1) (pre .2) (omega arith, omega arith, omega arith);
-      written = last (say lines (begin (pre .4))) (at-lines .lines .ensures);
+      state = played-state (at-burst .burst .ensures) (pre .few) (pre .same) (omega arith, omega arith, omega arith);
+      written = last (say lines (begin (pre .room))) (at-lines .lines .ensures);
     }
 
 pub play-spec : {M : Type 1} → statement M

@@ -1,22 +1,20 @@
 -- What was written, with what is left from here on, is the whole text. Assumes nothing.
-use Prim.Native.Nat.{_+_, _-_}
+use Prim.Native.Nat.{_-_}
 use native.Mathlib.Omega.{arith}
 use mathlib.Core.Path.{_≡_, subst}
 use lib.ListN.{length}
 use denote.Ref.{now}
 use borrow.Author.Needs.{needs}
-use Rattle.model.specs.File.{readEvents}
-use Rattle.model.specs.Text.{drillText}
-use Rattle.network.specs.View.{view}
 use Rattle.replay.specs.Chunks.{chunk, Stopped}
-use Rattle.replay.proofs.Pending.{room, step, room-all, last}
+use Rattle.replay.specs.Runs.{textOf}
+use Rattle.replay.proofs.Pending.{room-all, last}
 use Rattle.replay.proofs.Running.{Running, starts, kinds-lent, arguments-lent, few-kinds, as-many, ends, spoils, few-nodes, within, chunk-room, goes-on}
 use Rattle.replay.proofs.run.run.Statement.{statement}
 use Rattle.replay.proofs.run.run.Tie as tie
 
 abbrev Inv-loop : tie.InvT-loop
 Inv-loop file from out₀ network₀ at₀ ordinal₀ next₀ kinds₀ arguments₀ out network at ordinal next kinds arguments =
-    Running file out₀ (drillText (view network₀) (readEvents file from)) out network at ordinal next
+    Running file out₀ (textOf file from network₀) out network at ordinal next
     × (length kinds ≡ chunk)
     × (length arguments ≡ chunk)
 
@@ -26,8 +24,7 @@ abbrev μ-loop : tie.MeasureT-loop
 loop-holds : tie.Need-loop-holds Inv-loop μ-loop
 loop-holds c =
     let start = c .before in
-    let pre = start .pre in
-    (starts (now (start .args .file)) (now (start .args .out)) (start .args .opened) (start .args .from) (pre .0) (pre .1) (pre .2) (pre .3) (pre .4), search needs, search needs)
+    (starts (now (start .args .file)) (now (start .args .out)) (start .args .opened) (start .args .from) (start .pre), search needs, search needs)
 
 gather-requires : tie.Need-gather-requires Inv-loop μ-loop
 gather-requires c κs =
@@ -55,7 +52,7 @@ play-requires c κs =
     let at-gather = c .before .before .before in
     let run = at-gather .before .before .before .loop .inv .0 in
     let g = at-gather .gather .ensures .gathers in
-    (run .formed, few-kinds g, as-many g, within run, chunk-room run g)
+    record { formed = run .formed; few = few-kinds g; same = as-many g; early = within run; room = chunk-room run g }
 
 add-ordinal : tie.Need-add-ordinal Inv-loop μ-loop
 add-ordinal c =
@@ -115,29 +112,17 @@ spoilt-requires c κs =
     let gathered = at-gather .gather .ensures in
     let run = goes-on (at-gather .before .before .before .loop .inv .0) (gathered .gathers) (at-play .play .ensures) in
     let stop = subst (Stopped _ _ _) (at-stop .stop .given .1) (gathered .stopped) in
-    room _ _ (spoils run _ stop)
-
-ending-requires-2 : tie.Need-ending-requires-2 Inv-loop μ-loop
-ending-requires-2 c κs =
-    let at-spoilt = c .before in
-    let at-stop = at-spoilt .before .before .before in
-    let at-play = at-stop .before .before .before in
-    let at-gather = at-play .before .before .before .before in
-    let gathered = at-gather .gather .ensures in
-    let run = goes-on (at-gather .before .before .before .loop .inv .0) (gathered .gathers) (at-play .play .ensures) in
-    let stop = subst (Stopped _ _ _) (at-stop .stop .given .1) (gathered .stopped) in
-    (room-all (step _ _ (spoils run _ stop) (at-spoilt .spoilt .ensures)), few-nodes run)
+    (room-all (spoils run _ stop), few-nodes run)
 
 returns-2 : tie.Need-returns-2 Inv-loop μ-loop
 returns-2 c =
-    let at-spoilt = c .before .before in
-    let at-stop = at-spoilt .before .before .before in
+    let at-stop = c .before .before .before in
     let at-play = at-stop .before .before .before in
     let at-gather = at-play .before .before .before .before in
     let gathered = at-gather .gather .ensures in
     let run = goes-on (at-gather .before .before .before .loop .inv .0) (gathered .gathers) (at-play .play .ensures) in
     let stop = subst (Stopped _ _ _) (at-stop .stop .given .1) (gathered .stopped) in
-    last (step _ _ (spoils run _ stop) (at-spoilt .spoilt .ensures)) (c .ending2 .ensures)
+    last (spoils run _ stop) (c .spoilt .ensures)
 
 pub run-spec : {M : Type 1} → statement M
 run-spec =
@@ -161,5 +146,4 @@ run-spec =
     returns
     enum-known-stop
     spoilt-requires
-    ending-requires-2
     returns-2)

@@ -4,8 +4,8 @@ use mathlib.Core.List.{_++_}
 use Rattle.model.specs.Text.{ascii, digits}
 use borrow.Author.Needs.{needs}
 use Rattle.replay.proofs.Pending.{begin, say, room-all, last}
-use Rattle.replay.proofs.lines.count.Statement.{statement}
-use Rattle.replay.proofs.lines.count.Tie as tie
+use Rattle.replay.proofs.fields.count.Statement.{statement}
+use Rattle.replay.proofs.fields.count.Tie as tie
 
 wide-requires : tie.Need-wide-requires
 wide-requires c κs = search needs

@@ -2,8 +2,8 @@
 use borrow.Author.Needs.{needs}
 use Rattle.replay.proofs.Pending.{begin, say, room-all, last}
 use Rattle.replay.proofs.CodeWords.{packet-none, packet-some}
-use Rattle.replay.proofs.lines.packet.Statement.{statement}
-use Rattle.replay.proofs.lines.packet.Tie as tie
+use Rattle.replay.proofs.fields.packet.Statement.{statement}
+use Rattle.replay.proofs.fields.packet.Tie as tie
 
 slice-aggregate-word : tie.Need-slice-aggregate-word
 slice-aggregate-word c = search needs

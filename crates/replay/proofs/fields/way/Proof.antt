@@ -2,8 +2,8 @@
 use borrow.Author.Needs.{needs}
 use Rattle.replay.proofs.Pending.{begin, say, room-all, last}
 use Rattle.replay.proofs.CodeWords.{way-lane, way-in, way-lost, way-end, way-none}
-use Rattle.replay.proofs.lines.way.Statement.{statement}
-use Rattle.replay.proofs.lines.way.Tie as tie
+use Rattle.replay.proofs.fields.way.Statement.{statement}
+use Rattle.replay.proofs.fields.way.Tie as tie
 
 field-requires : tie.Need-field-requires
 field-requires c κs =
