@@ -67,8 +67,28 @@ impl Network {
     pub fn apply(self, kind: u32, argument: usize) -> Moved
         ensures { λ r. ⌜ CallPost self (call (view self) kind argument) r ⌝ }
     {
-        let sound = self.well_formed();
-        let tally = self.tally();
+        // by reference: a copy of the record costs more than the event
+        let tally = Tally {
+            flying: self.flying,
+            events: self.events,
+            admitted: self.admitted,
+            delivered: self.delivered,
+            lost: self.lost,
+            stranded: self.stranded,
+        };
+        let sound = formed(
+            &self.node,
+            &self.live,
+            &self.out,
+            &self.mark,
+            &self.turns,
+            &self.number,
+            &self.lane,
+            self.nodes,
+            self.destination,
+            self.links,
+            tally,
+        );
         let mut live = self.live;
         let mut out = self.out;
         let mut local = self.local;
@@ -114,29 +134,28 @@ impl Network {
                 went,
             };
         }
-        let network = Network {
-            node: self.node,
-            live,
-            out,
-            local,
-            remote,
-            mark,
-            turns,
-            number,
-            lane,
-            bit,
-            nodes: self.nodes,
-            destination: self.destination,
-            links: self.links,
-            flying: t.flying,
-            events: t.events,
-            admitted: t.admitted,
-            delivered: t.delivered,
-            lost: t.lost,
-            stranded: t.stranded,
-        };
         Moved {
-            network,
+            network: Network {
+                node: self.node,
+                live,
+                out,
+                local,
+                remote,
+                mark,
+                turns,
+                number,
+                lane,
+                bit,
+                nodes: self.nodes,
+                destination: self.destination,
+                links: self.links,
+                flying: t.flying,
+                events: t.events,
+                admitted: t.admitted,
+                delivered: t.delivered,
+                lost: t.lost,
+                stranded: t.stranded,
+            },
             answer,
             handled,
             went,

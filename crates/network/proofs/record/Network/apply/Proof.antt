@@ -2,14 +2,11 @@
 use mathlib.Core.Path.{_≡_, refl, sym, ap, _∙_}
 use mathlib.Core.Bool.{true, false}
 use denote.Ref.{now}
-use Rattle.model.specs.State.{State}
-use Rattle.model.specs.Formed.{wellFormed}
 use Rattle.model.proofs.Below.{clash}
-use Rattle.steps.specs.Call.{call}
 use Rattle.steps.specs.Steps.{Whole}
 use Rattle.steps.proofs.Calls.{handed-back}
 use Rattle.network.specs.View.{view}
-use Rattle.network.proofs.Seen.{seen-by}
+use Rattle.network.proofs.Seen.{of-view}
 use borrow.Author.Needs.{needs}
 use Rattle.network.proofs.record.Network.apply.Statement.{statement}
 use Rattle.network.proofs.record.Network.apply.Tie as tie
@@ -25,31 +22,22 @@ whole c = record {
   };
 }
 
-well-formed-requires : tie.Need-well-formed-requires
-well-formed-requires c κs = search needs
-
-tally-requires : tie.Need-tally-requires
-tally-requires c κs = search needs
+formed-requires : tie.Need-formed-requires
+formed-requires c κs = search needs
 
 step-requires : tie.Need-step-requires
-step-requires c κs =
-    (c .before .before .before .before .before .before .before .before .before .before .before .before .before .before .before .before .before .before .before .before .before .before .before .well-formed .ensures ∙ sym (ap wellFormed (seen-by (c .before .before .before .before .before .before .before .before .before .before .before .before .before .before .before .before .before .before .before .before .before .before .before .before .args .t1) (c .before .before .before .before .before .before .before .before .before .before .before .before .before .before .before .before .before .before .before .before .before .before .tally .ensures))), whole (c .before .before .before .before .before .before .before .before .before .before .before .before .before .before .before .before .before .before .before .before .before .before .before .before), λ e. absurd (clash e refl))
+step-requires c κs = (of-view (c .before .before .before .before .before .before .before .before .before .before .before .before .before .before .before .before .before .before .before .before .before .before .before .before .before .before .before .before .before .before .before .args .t1) (c .before .before .before .before .before .before .before .before .before .before .before .before .before .before .before .before .before .before .before .before .before .before .formed .ensures), whole (c .before .before .before .before .before .before .before .before .before .before .before .before .before .before .before .before .before .before .before .before .before .before .before .before .before .before .before .before .before .before .before), λ e. absurd (clash e refl))
 
 returns : tie.Need-returns
 returns c =
-    let a = c .before .before .before .before .before .before .before .before .before .before .before .before .before .before .before .before .before .before .before .before .before .before .before .before .before .before .before .args in
+    let a = c .before .before .before .before .before .before .before .before .before .before .before .before .before .before .before .before .before .before .before .before .before .before .before .before .before .before .before .before .before .before .before .before .before .before .args in
     record {
-      outcome = handed-back (view (a .t1)) (a .kind) (a .argument) _ _ _ _ (c .before .before .step .ensures .0 ∙ ap (λ (s : State). call s (a .kind) (a .argument)) (seen-by (a .t1) (c .before .before .before .before .before .before .before .before .before .before .before .before .before .before .before .before .before .before .before .before .before .before .before .before .before .tally .ensures))) (c .if1 .taken);
+      outcome = handed-back (view (a .t1)) (a .kind) (a .argument) _ _ _ _ (c .before .before .step .ensures .0) (c .if1 .taken);
       unchanged = λ z. refl;
     }
 
 returns-2 : tie.Need-returns-2
-returns-2 c =
-    let a = c .before .before .before .before .before .before .before .before .before .before .before .before .before .before .before .before .before .before .before .before .before .before .before .before .before .before .before .before .args in
-    record {
-      outcome = c .before .before .before .step .ensures .0 ∙ ap (λ (s : State). call s (a .kind) (a .argument)) (seen-by (a .t1) (c .before .before .before .before .before .before .before .before .before .before .before .before .before .before .before .before .before .before .before .before .before .before .before .before .before .before .tally .ensures));
-      unchanged = λ z. absurd (z (c .before .if1 .left));
-    }
+returns-2 c = record { outcome = c .before .before .before .step .ensures .0; unchanged = λ z. absurd (z (c .before .if1 .left)) }
 
 pub apply-spec : {M : Type 1} → statement M
-apply-spec = tie.close (tie.spec well-formed-requires tally-requires step-requires returns returns-2)
+apply-spec = tie.close (tie.spec formed-requires step-requires returns returns-2)
