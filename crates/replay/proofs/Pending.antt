@@ -1,19 +1,13 @@
 -- Writing in parts: what was stored, with the stores that are left, is the whole. Assumes nothing.
-use Prim.Native.Nat.{ℕ, suc, _+_, _≤_}
-use native.Mathlib.Nat.{add-zero}
+use Prim.Native.Nat.{ℕ, _+_, _≤_}
 use native.Mathlib.Omega.{arith}
 use mathlib.Core.Path.{_≡_, refl, sym, ap, _∙_}
 use mathlib.Core.List.{List, [], _∷_, _++_}
-use lib.ListN.{length, set, length-append}
+use lib.ListN.{length, length-append}
 use lib.Seq.{sets, length-sets}
 use Rattle.model.specs.Limits.{textMost}
+use Rattle.drillfile.proofs.Stores.{sets-append}
 use Rattle.replay.specs.Puts.{Room, Put}
-
-sets-append : (x y l : List ℕ) (i : ℕ) → sets (sets l i x) (i + length x) y ≡ sets l i (x ++ y)
-sets-append [] y l i = rw add-zero
-sets-append (a ∷ x) y l i =
-    let e : i + suc (length x) ≡ suc i + length x = omega arith in
-    rw e (sets-append x y (set l i a) (suc i))
 
 -- `rest` is left of `whole`
 pub record Pending (l : List ℕ) (at : ℕ) (whole out : List ℕ) (next : ℕ) (rest : List ℕ) : Type 0 where

@@ -3,9 +3,8 @@ use Prim.Native.Nat.{ℕ, _+_, _≤_, _<_}
 use native.Mathlib.Nat.{zero-add}
 use native.Mathlib.Omega.{arith}
 use mathlib.Core.Path.{_≡_, sym, ap, _∙_}
-use mathlib.Core.List.{List, _++_}
-use lib.ListN.{length, drop}
-use lib.Seq.{sets-eq}
+use mathlib.Core.List.{List}
+use lib.ListN.{length}
 use borrow.Author.Tests.{lt-ltb, le-ltb}
 use Rattle.model.specs.Limits.{fileMost, textMost}
 use Rattle.model.specs.Answers as answers
@@ -17,6 +16,7 @@ use Rattle.model.proofs.Had.{header-moves}
 use Rattle.model.proofs.TextFits.{text-fits}
 use Rattle.drillfile.specs.declared.answers.Headed.{Headed}
 use Rattle.drillfile.specs.Headers.{HeaderPost}
+use Rattle.drillfile.proofs.Stores.{sets-front}
 use Rattle.drillfile.proofs.Told.{accepted-told, refused-told}
 use Rattle.replay.specs.Puts.{Put}
 use Rattle.replay.specs.Runs.{textOf, RunPre}
@@ -39,12 +39,9 @@ module _ (file : List ℕ) where
     -- what is written at the front is the contract's text
     pub text-put : {r : ℕ} {out′ : List ℕ} → Put out 0 (drillOutput file) r out′ → TextPost file out out′ r
     text-put p =
-        let n = zero-add (length (drillOutput file)) in
         record {
-          count = p .next ∙ n;
-          bytes = p .stores
-              ∙ sets-eq (drillOutput file) out 0 (omega (arith, text-fits file))
-              ∙ ap (λ i. drillOutput file ++ drop i out) n;
+          count = p .next ∙ zero-add (length (drillOutput file));
+          bytes = p .stores ∙ sets-front (drillOutput file) out (omega (arith, text-fits file));
         }
 
     pub long : fileMost < length file → Pending out 0 (drillOutput file) out 0 (refusedLine answers.spoilt fileMost)
