@@ -38,6 +38,7 @@ fn small(out: &mut [u8; model::TEXT_MOST], at: usize, n: usize) -> usize
     three(out, at, n)
 }
 
+// Any number: its digits but the last three, then these. A place needs no bound of its own.
 pub(crate) fn number(out: &mut [u8; model::TEXT_MOST], at: usize, n: usize) -> usize
     requires { ⌜ Room (now out) at (digits n) ⌝ }
     ensures { λ r. ⌜ Put (now (out .entry)) at (digits n) r (now (out .exit)) ⌝ }

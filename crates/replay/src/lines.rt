@@ -22,6 +22,7 @@ ghost use Rattle.replay.specs.Lines.{row, endingOf};
 // The answer number of a spoilt file.
 pub(crate) const SPOILT: usize = 11;
 
+// An event's line, by what the burst gave for it.
 pub(crate) fn event(
     out: &mut [u8; model::TEXT_MOST],
     at: usize,
@@ -55,6 +56,7 @@ fn row(out: &mut [u8; model::TEXT_MOST], at: usize, w: &[u8], list: &[usize]) ->
     byte(out, next, b'\n')
 }
 
+// The only line where the header is refused, or the file too long.
 pub(crate) fn refused(
     out: &mut [u8; model::TEXT_MOST],
     at: usize,
@@ -68,6 +70,7 @@ pub(crate) fn refused(
     row(out, at, b"refused", &list)
 }
 
+// The turns stand in the record as they are, so no list is made of them.
 fn turns(
     out: &mut [u8; model::TEXT_MOST],
     at: usize,

@@ -38,6 +38,7 @@ fn lines<'a>(
     next
 }
 
+// The burst, then its lines: the record is checked once for the whole chunk.
 pub(crate) fn play<'a>(
     network: Network,
     kinds: &'a [u32],

@@ -1,4 +1,4 @@
-// Bytes and words of the text, at a position of it.
+// Bytes and words of the text, at a position of it; each writer gives the position after what it wrote.
 ghost use mathlib.Core.List.{[], _∷_};
 ghost use Rattle.replay.specs.Puts.{Room, Put};
 
