@@ -11,7 +11,8 @@ use Rattle.model.specs.State.{State}
 use Rattle.model.specs.Below.{first}
 use Rattle.model.specs.Departure.{liveAt, outAt, markAt, outLink, outEnd}
 use Rattle.arrays.specs.View.{endsSeen}
-use Rattle.moves.proofs.Searches.{used-in, first-by-links}
+use Rattle.arrays.proofs.Below.{used-in}
+use Rattle.moves.proofs.Searches.{first-by-links}
 
 module _ (links : ℕ) (node : List ℕ) (live out local mark : List Bool) (v : ℕ) where
   abbrev S : State

@@ -20,24 +20,15 @@ use Rattle.model.proofs.Below.{look}
 use Rattle.moves.proofs.Chains.{first-least}
 use Rattle.arrays.specs.View.{packetAt}
 use Rattle.arrays.specs.Flight.{slots, Slots, packets}
+use Rattle.arrays.proofs.Below.{length-tab, tab-same}
 use Rattle.moves.specs.Moves.{Removed}
 
 -- ---- lists of a function's values
 module _ {A : Type 0} where
-  pub tab-ext : (f g : ℕ → A) (k : ℕ) → ((i : ℕ) → i < k → f i ≡ g i) → tab f k ≡ tab g k
-  unfolding tab
-  tab-ext f g zero h = refl
-  tab-ext f g (suc k) h = rw (h 0 (omega arith), tab-ext (λ i. f (suc i)) (λ i. g (suc i)) k (λ i l. h (suc i) (omega arith)))
-
   pub tab-snoc : (f : ℕ → A) (k : ℕ) → tab f (suc k) ≡ tab f k ++ (f k ∷ [])
   unfolding tab
   tab-snoc f zero = refl
   tab-snoc f (suc k) = ap (λ l. f 0 ∷ l) (tab-snoc (λ i. f (suc i)) k)
-
-  pub tab-length : (f : ℕ → A) (k : ℕ) → length (tab f k) ≡ k
-  unfolding tab
-  tab-length f zero = refl
-  tab-length f (suc k) = ap suc (tab-length (λ i. f (suc i)) k)
 
 first-shift : (p : ℕ → Bool) (i k : ℕ) → first p (suc i) k ≡ suc (first (λ j. p (suc j)) i k)
 unfolding first
@@ -90,13 +81,13 @@ module _ (x : ℕ) where
   lane-less f (suc k) h = elim (look (on f 0)) [
     | inl a ↦
         rw (a, first-here (on f) (suc k) a)
-        (ap (λ l. f 1 ∷ l) (tab-ext (λ j. f (suc (suc j))) (λ j. up f 0 (suc j)) k (λ j l. rw (le-ltb (suc j) 0 (omega arith)))))
+        (ap (λ l. f 1 ∷ l) (tab-same (λ j. f (suc (suc j))) (λ j. up f 0 (suc j)) k (λ j l. rw (le-ltb (suc j) 0 (omega arith)))))
     | inr a ↦
         let i = first (λ j. on f (suc j)) 0 (suc k) in
         rw (a, first-after (on f) (suc k) a, lt-ltb 0 (suc i) (omega arith))
         (ap (λ l. f 0 ∷ l)
         (lane-less (λ j. f (suc j)) k (omega (arith, first-after (on f) (suc k) a))
-        ∙ tab-ext (up (λ j. f (suc j)) i) (λ j. up f (suc i) (suc j)) k (λ j l. rw (leb·suc-suc (suc j) i))))
+        ∙ tab-same (up (λ j. f (suc j)) i) (λ j. up f (suc i) (suc j)) k (λ j l. rw (leb·suc-suc (suc j) i))))
   ]
 
 -- ---- in the arrays
@@ -115,7 +106,7 @@ module _ (number lane : List ℕ) (bit : List Bool) where
         getD-set-same lane k x 0 (omega (arith, s .lane-long)),
         getD-set-same bit k b false (omega (arith, s .bit-long)),
       )
-      (ap (λ l. l ++ (record { number = n; lane = x; bit = b } ∷ [])) (tab-ext (packetAt (set number k n) (set lane k x) (set bit k b)) at k other))
+      (ap (λ l. l ++ (record { number = n; lane = x; bit = b } ∷ [])) (tab-same (packetAt (set number k n) (set lane k x) (set bit k b)) at k other))
     where
       other : (i : ℕ) → i < k → packetAt (set number k n) (set lane k x) (set bit k b) i ≡ at i
       other i l =
@@ -127,7 +118,7 @@ module _ (number lane : List ℕ) (bit : List Bool) where
       → Removed 0 i last number number′ → Removed 0 i last lane lane′ → Removed false i last bit bit′
       → packets number′ lane′ bit′ last ≡ less x (packets number lane bit (suc last))
   taken-out number′ lane′ bit′ x i last e h rn rl rb =
-      sym (lane-less x at last (omega (arith, e)) ∙ rw (← e) (tab-ext (up x at i) (packetAt number′ lane′ bit′) last same))
+      sym (lane-less x at last (omega (arith, e)) ∙ rw (← e) (tab-same (up x at i) (packetAt number′ lane′ bit′) last same))
     where
       same : (j : ℕ) → j < last → up x at i j ≡ packetAt number′ lane′ bit′ j
       same j l = rw (rn .entry j l, rl .entry j l, rb .entry j l) (elim (look (ltb j i)) [ inl a ↦ rw a | inr a ↦ rw a ])

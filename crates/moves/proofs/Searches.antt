@@ -13,14 +13,6 @@ use Rattle.model.specs.Below.{any, first}
 use Rattle.model.proofs.Below.{look, any-here, any-false}
 use Rattle.arrays.specs.View.{used}
 
-pub used-in {ℓ} : {A : Type ℓ} (k : ℕ) (d : A) (xs : List A) (i : ℕ) → i < k → used k d xs i ≡ getD xs i d
-unfolding used
-used-in k d xs i h = rw (lt-ltb i k h)
-
-pub used-out {ℓ} : {A : Type ℓ} (k : ℕ) (d : A) (xs : List A) (i : ℕ) → k ≤ i → used k d xs i ≡ d
-unfolding used
-used-out k d xs i h = rw (le-ltb i k h)
-
 -- ---- some number below a bound: one more is looked at
 pub any-none : (p : ℕ → Bool) → any p 0 ≡ false
 unfolding any

@@ -13,22 +13,13 @@ use Rattle.model.specs.State.{State}
 use Rattle.model.specs.Departure.{liveAt, markAt, hasMark, reverses, turn}
 use Rattle.model.proofs.Below.{look}
 use Rattle.arrays.specs.View.{used, endsSeen}
+use Rattle.arrays.proofs.Below.{used-in, used-is, used-out}
 use Rattle.moves.specs.Turned.{Long, Turned}
-use Rattle.moves.proofs.Searches.{used-in, used-out}
 use Rattle.moves.proofs.Patches.{patch, patch-none, patch-length, patch-ahead, patch-done, patch-store}
 
 pick-is : (h a m : Bool) → (h && a || not h && m) ≡ cond h a m
 pick-is true a m = or-false a
 pick-is false a m = refl
-
--- a function that is the used part of a list
-pub used-is {ℓ} : {A : Type ℓ} (k : ℕ) (d : A) (xs : List A) (g : ℕ → A) → ((i : ℕ) → i < k → getD xs i d ≡ g i) → ((i : ℕ) → k ≤ i → d ≡ g i)
-    → used k d xs ≡ g
-used-is k d xs g p q = fun-ext (λ i. go i (look (ltb i k)))
-  where
-    go : (i : ℕ) → (ltb i k ≡ true) ⊎ (ltb i k ≡ false) → used k d xs i ≡ g i
-    go i (inl e) = used-in k d xs i (ltb-true i k e) ∙ p i (ltb-true i k e)
-    go i (inr e) = used-out k d xs i (ltb-false i k e) ∙ q i (ltb-false i k e)
 
 module _ (links : ℕ) (node : List ℕ) (live out local mark : List Bool) (v : ℕ) (full : Bool) where
   abbrev S : State

@@ -19,8 +19,7 @@ use Rattle.model.specs.Outcome.{Outcome, refuse, accepting, counted}
 use Rattle.model.specs.Fail.{off, cut, failOf}
 use Rattle.model.proofs.Below.{look}
 use Rattle.arrays.specs.View.{used, endsOf, stateOf}
-use Rattle.moves.proofs.Searches.{used-in, used-out}
-use Rattle.moves.proofs.Turns.{used-is}
+use Rattle.arrays.proofs.Below.{used-in, used-is, used-out}
 
 module _ (s : State) (l : ℕ) (formed : wellFormed s ≡ true) (room : s .counts .events < eventsMost) where
   pub fail-no-such : s .net .links ≤ l → refuse s answers.noSuch ≡ failOf s l

@@ -20,8 +20,9 @@ use Rattle.model.proofs.Below.{look}
 use Rattle.model.proofs.Ends.{live-whole}
 use Rattle.arrays.specs.View.{used, netOf, stateOf, packetAt}
 use Rattle.arrays.specs.Flight.{Slots, packets}
+use Rattle.arrays.proofs.Below.{used-in}
 use Rattle.moves.specs.Moves.{Removed}
-use Rattle.moves.proofs.Searches.{used-in, first-most}
+use Rattle.moves.proofs.Searches.{first-most}
 use Rattle.steps.specs.declared.lanes.Found.{Found}
 use Rattle.steps.specs.Lanes.{nowhere, oldestAt, found}
 use Rattle.moves.proofs.Packets.{lane-empty, lane-oldest, taken-out}

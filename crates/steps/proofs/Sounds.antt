@@ -16,9 +16,8 @@ use Rattle.model.proofs.Ends.{which-end}
 use Rattle.model.proofs.Formed.{Formed, formed-if, if-formed}
 use Rattle.arrays.specs.declared.Tally.{Tally}
 use Rattle.arrays.specs.View.{used, packetAt}
+use Rattle.arrays.proofs.Below.{length-tab, used-in}
 use Rattle.steps.specs.Steps.{stateAt, MarksLive, Fair}
-use Rattle.moves.proofs.Searches.{used-in}
-use Rattle.moves.proofs.Packets.{tab-length}
 
 pub record Sizes (nodes destination links : ℕ) : Type 0 where
   pub nodes-most : nodes ≤ nodesMost
@@ -75,7 +74,7 @@ module _ (node : List ℕ) (live out local remote mark : List Bool) (turns numbe
       let s : State = stateAt node live out local remote mark turns number lane bit nodes destination links t in
       let f = formed-if s e in
       let z = sizes-are nodes destination links (f .net .sizes) in
-      let many = tab-length (packetAt number lane bit) (t .flying) in
+      let many = length-tab (packetAt number lane bit) (t .flying) in
       record {
         sizes = z;
         flying = omega (arith, f .room);

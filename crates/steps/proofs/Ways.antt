@@ -22,10 +22,10 @@ use Rattle.arrays.specs.declared.Tally.{Tally}
 use Rattle.arrays.specs.View.{used, netOf, endsOf, countsOf, stateOf, endsSeen}
 use Rattle.moves.specs.Turned.{Turned}
 use Rattle.arrays.specs.Flight.{packets}
+use Rattle.arrays.proofs.Below.{used-in, used-is, used-out}
 use Rattle.steps.specs.Steps.{stateAt}
-use Rattle.moves.proofs.Searches.{used-in, used-out, first-most, first-by-links}
+use Rattle.moves.proofs.Searches.{first-most, first-by-links}
 use Rattle.moves.proofs.Chains.{first-hit}
-use Rattle.moves.proofs.Turns.{used-is}
 
 -- ---- a node has a way out exactly if the search finds one
 first-found : (p : ℕ → Bool) (n : ℕ) → any p n ≡ true → first p 0 n < n

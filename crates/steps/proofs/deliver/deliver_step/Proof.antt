@@ -15,8 +15,8 @@ use Rattle.model.specs.Lanes.{taken, offLane}
 use Rattle.model.proofs.Ends.{opp-below, link-opp}
 use Rattle.arrays.specs.View.{netOf, endsOf, countsOf, packetAt}
 use Rattle.arrays.specs.Flight.{slots, packets}
+use Rattle.arrays.proofs.Below.{used-in}
 use Rattle.steps.specs.Steps.{stateAt, outcomeOf, landed}
-use Rattle.moves.proofs.Searches.{used-in}
 use Rattle.steps.proofs.Sounds.{Sound, sound-if}
 use Rattle.steps.proofs.OffLanes.{There, there, off-refused, off-found, took-is, rest-there, slots-kept}
 use Rattle.steps.proofs.Deliveries.{fresh-is, out-of-step, deal-lands, held-at, heard-is}

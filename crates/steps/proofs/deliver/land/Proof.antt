@@ -13,9 +13,9 @@ use Rattle.model.specs.State.{State}
 use Rattle.model.specs.Departure.{hasLive}
 use Rattle.model.specs.Outcome.{counted, leaves, onward}
 use Rattle.arrays.specs.declared.Tally.{Tally}
+use Rattle.arrays.proofs.Below.{used-in}
 use Rattle.steps.specs.Steps.{stateAt}
 use Rattle.steps.proofs.Tallies.{done-is}
-use Rattle.moves.proofs.Searches.{used-in}
 use borrow.Author.Needs.{needs}
 use Rattle.steps.proofs.Deliveries.{lands-home, lands-back, lands-on}
 use Rattle.steps.proofs.deliver.land.Statement.{statement}

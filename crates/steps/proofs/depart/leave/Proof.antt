@@ -5,7 +5,7 @@ use mathlib.Core.Path.{_≡_, refl, sym, ap, _∙_}
 use mathlib.Core.Bool.{false}
 use denote.Ref.{now}
 use Rattle.arrays.specs.View.{netOf, endsOf, countsOf}
-use Rattle.moves.proofs.Searches.{used-in}
+use Rattle.arrays.proofs.Below.{used-in}
 use Rattle.steps.proofs.Ways.{leave-is}
 use borrow.Author.Needs.{needs}
 use Rattle.steps.proofs.depart.leave.Statement.{statement}

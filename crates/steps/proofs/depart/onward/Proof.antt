@@ -8,9 +8,9 @@ use mathlib.Core.List.{[]}
 use denote.Ref.{now}
 use Rattle.model.specs.Departure.{hasOut}
 use Rattle.steps.specs.Steps.{stateAt}
-use Rattle.moves.proofs.Searches.{used-in}
 use Rattle.steps.proofs.Ways.{no-way, onward-by, onward-turned, turn-finds}
 use borrow.Author.Needs.{needs}
+use Rattle.arrays.proofs.Below.{used-in}
 use Rattle.steps.proofs.depart.onward.Statement.{statement}
 use Rattle.steps.proofs.depart.onward.Tie as tie
 

@@ -14,9 +14,8 @@ use Rattle.model.specs.Outcome.{Outcome, counted}
 use Rattle.model.specs.Fail.{cut}
 use Rattle.arrays.specs.View.{netOf, countsOf, packetAt}
 use Rattle.arrays.specs.Flight.{packets}
+use Rattle.arrays.proofs.Below.{length-tab, used-in}
 use Rattle.steps.specs.Steps.{stateAt, outcomeOf}
-use Rattle.moves.proofs.Searches.{used-in}
-use Rattle.moves.proofs.Packets.{tab-length}
 use Rattle.steps.proofs.Tallies.{bare-is}
 use Rattle.steps.proofs.Cuts.{fail-no-such, fail-down, fail-cuts, cut-is}
 use borrow.Author.Needs.{needs}
@@ -93,13 +92,13 @@ returns-3 c =
     let kept = c .before .before .keep-off .result in
     let flight = packets (now (a .number)) (now (a .lane)) (now (a .bit)) (a .tally .flying) in
     let after = packets (c .before .before .keep-off .last .0) (c .before .before .keep-off .last .1 .0) (c .before .before .keep-off .last .1 .1 .0) kept in
-    let left = tab-length (packetAt (c .before .before .keep-off .last .0) (c .before .before .keep-off .last .1 .0) (c .before .before .keep-off .last .1 .1 .0)) kept in (
+    let left = length-tab (packetAt (c .before .before .keep-off .last .0) (c .before .before .keep-off .last .1 .0) (c .before .before .keep-off .last .1 .1 .0)) kept in (
       λ node out local remote turns nodes destination formed.
           bare-is node (set (now (a .live)) (a .l) false) out local remote (set (set (now (a .mark)) (2 * a .l) false) (2 * a .l + 1) false) turns (c .before .before .keep-off .last .0) (c .before .before .keep-off .last .1 .0) (c .before .before .keep-off .last .1 .1 .0) nodes destination (a .links) (a .tally) _ _ kept 0 0 (a .tally .flying - kept) 0 (c .before .counted .ensures) (c .bare3 .ensures)
           ∙ ap (λ (s : State). record { state = counted s 0 0 (a .tally .flying - kept) 0; answer = 0; handled = handled.Nothing; went = went.Nowhere })
           (cut-is (netOf nodes destination (a .links) node) (now (a .live)) out local remote (now (a .mark)) turns flight after (countsOf (a .tally)) (a .l) (c .before .before .before .before .before .before .before .before .if1 .left) (c .before .before .before .before .before .before .before .before .before .pre .0) (c .before .before .before .before .before .before .before .before .before .pre .3) (c .before .before .before .before .before .before .before .before .before .pre .4) (c .before .before .keep-off .ensures .1))
           ∙ fail-cuts (stateAt node (now (a .live)) out local remote (now (a .mark)) turns (now (a .number)) (now (a .lane)) (now (a .bit)) nodes destination (a .links) (a .tally)) (a .l) formed (c .before .before .before .before .before .before .before .before .before .pre .2 .events) (c .before .before .before .before .before .before .before .before .if1 .left) (used-in (a .links) false (now (a .live)) (a .l) (c .before .before .before .before .before .before .before .before .if1 .left) ∙ not-false _ (c .before .before .before .before .before .before .if2 .left)) (a .tally .flying - kept)
-          (omega (arith, tab-length (packetAt (now (a .number)) (now (a .lane)) (now (a .bit))) (a .tally .flying), left, ap (λ (ps : List Packet). length ps) (c .before .before .keep-off .ensures .1))),
+          (omega (arith, length-tab (packetAt (now (a .number)) (now (a .lane)) (now (a .bit))) (a .tally .flying), left, ap (λ (ps : List Packet). length ps) (c .before .before .keep-off .ensures .1))),
       length-set (now (a .live)) (a .l) false ∙ c .before .before .before .before .before .before .before .before .before .pre .3,
       length-set (set (now (a .mark)) (2 * a .l) false) (2 * a .l + 1) false ∙ length-set (now (a .mark)) (2 * a .l) false ∙ c .before .before .before .before .before .before .before .before .before .pre .4,
       c .before .before .keep-off .ensures .2,

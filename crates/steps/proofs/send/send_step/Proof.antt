@@ -13,9 +13,8 @@ use Rattle.model.specs.Outcome.{counted, onward}
 use Rattle.arrays.specs.declared.Tally.{Tally}
 use Rattle.steps.specs.declared.tally.Step.{Step}
 use Rattle.arrays.specs.View.{used, packetAt}
+use Rattle.arrays.proofs.Below.{length-tab, used-in}
 use Rattle.steps.specs.Steps.{stateAt, outcomeOf, tallied}
-use Rattle.moves.proofs.Packets.{tab-length}
-use Rattle.moves.proofs.Searches.{used-in}
 use Rattle.steps.proofs.Ways.{has-way, no-way, onward-by, onward-turned, turn-finds}
 use Rattle.steps.proofs.Sounds.{remote-free, sound-if}
 use Rattle.steps.proofs.Sends.{out-live, send-no-such, send-arrives, send-strands, send-full, send-goes}
@@ -99,7 +98,7 @@ unfolding hasLive
 returns-4 c =
     let a = c .before .before .before .before .before .before .before .before .before .args in (
       λ remote. ap (λ r. outcomeOf (stateAt (now (a .node)) (now (a .live)) (now (a .out)) (now (a .local)) remote (now (a .mark)) (now (a .turns)) (now (a .number)) (now (a .lane)) (now (a .bit)) (a .nodes) (a .destination) (a .links) (r .tally)) r) (c .bare2 .ensures)
-          ∙ send-full (stateAt (now (a .node)) (now (a .live)) (now (a .out)) (now (a .local)) remote (now (a .mark)) (now (a .turns)) (now (a .number)) (now (a .lane)) (now (a .bit)) (a .nodes) (a .destination) (a .links) (a .tally)) (a .v) (remote-free _ _ _ _ _ (used (2 * a .links) false remote) _ _ _ _ (c .before .before .before .before .before .before .before .before .before .pre .0)) (c .before .before .before .before .before .before .before .before .before .pre .1) (c .before .before .before .before .before .before .before .before .if1 .left) (c .before .before .before .before .before .before .before .if2 .left) (sym (c .before .before .before .held .ensures) ∙ not-false _ (c .before .before .if4 .left)) (omega (arith, c .before .if5 .taken, tab-length (packetAt (now (a .number)) (now (a .lane)) (now (a .bit))) (a .tally .flying))),
+          ∙ send-full (stateAt (now (a .node)) (now (a .live)) (now (a .out)) (now (a .local)) remote (now (a .mark)) (now (a .turns)) (now (a .number)) (now (a .lane)) (now (a .bit)) (a .nodes) (a .destination) (a .links) (a .tally)) (a .v) (remote-free _ _ _ _ _ (used (2 * a .links) false remote) _ _ _ _ (c .before .before .before .before .before .before .before .before .before .pre .0)) (c .before .before .before .before .before .before .before .before .before .pre .1) (c .before .before .before .before .before .before .before .before .if1 .left) (c .before .before .before .before .before .before .before .if2 .left) (sym (c .before .before .before .held .ensures) ∙ not-false _ (c .before .before .if4 .left)) (omega (arith, c .before .if5 .taken, length-tab (packetAt (now (a .number)) (now (a .lane)) (now (a .bit))) (a .tally .flying))),
       c .before .before .before .before .before .before .before .before .before .pre .2,
     )
 
@@ -138,7 +137,7 @@ returns-5 c =
           c .turn-and-leave .ensures .0 remote (a .destination)
           ∙ onward-turned (stateAt (now (a .node)) (now (a .live)) (now (a .out)) (now (a .local)) remote (now (a .mark)) (now (a .turns)) (now (a .number)) (now (a .lane)) (now (a .bit)) (a .nodes) (a .destination) (a .links) t) (a .v) (a .tally .admitted) (no-way (stateAt (now (a .node)) (now (a .live)) (now (a .out)) (now (a .local)) remote (now (a .mark)) (now (a .turns)) (now (a .number)) (now (a .lane)) (now (a .bit)) (a .nodes) (a .destination) (a .links) t) (a .v) (omega (arith, c .before .before .before .before .before .before .before .before .before .before .before .before .before .way .ensures, c .before .before .before .before .before .before .before .before .before .before .before .before .if3 .taken)))
           ∙ ap (λ t. onward (stateAt (now (a .node)) (now (a .live)) (now (a .out)) (now (a .local)) remote (now (a .mark)) (now (a .turns)) (now (a .number)) (now (a .lane)) (now (a .bit)) (a .nodes) (a .destination) (a .links) t) (a .v) (a .tally .admitted)) (c .before .before .before .before .before .before .before .before .counted3 .ensures)
-          ∙ send-goes (stateAt (now (a .node)) (now (a .live)) (now (a .out)) (now (a .local)) remote (now (a .mark)) (now (a .turns)) (now (a .number)) (now (a .lane)) (now (a .bit)) (a .nodes) (a .destination) (a .links) (a .tally)) (a .v) (remote-free _ _ _ _ _ (used (2 * a .links) false remote) _ _ _ _ (c .before .before .before .before .before .before .before .before .before .before .before .before .before .before .before .before .before .pre .0)) (c .before .before .before .before .before .before .before .before .before .before .before .before .before .before .before .before .before .pre .1) (c .before .before .before .before .before .before .before .before .before .before .before .before .before .before .before .before .if1 .left) (c .before .before .before .before .before .before .before .before .before .before .before .before .before .before .before .if2 .left) (sym (c .before .before .before .before .before .before .before .before .before .before .before .held .ensures) ∙ not-false _ (c .before .before .before .before .before .before .before .before .before .before .if4 .left)) (omega (arith, tab-length (packetAt (now (a .number)) (now (a .lane)) (now (a .bit))) (a .tally .flying), c .before .before .before .before .before .before .before .before .before .if5 .left)),
+          ∙ send-goes (stateAt (now (a .node)) (now (a .live)) (now (a .out)) (now (a .local)) remote (now (a .mark)) (now (a .turns)) (now (a .number)) (now (a .lane)) (now (a .bit)) (a .nodes) (a .destination) (a .links) (a .tally)) (a .v) (remote-free _ _ _ _ _ (used (2 * a .links) false remote) _ _ _ _ (c .before .before .before .before .before .before .before .before .before .before .before .before .before .before .before .before .before .pre .0)) (c .before .before .before .before .before .before .before .before .before .before .before .before .before .before .before .before .before .pre .1) (c .before .before .before .before .before .before .before .before .before .before .before .before .before .before .before .before .if1 .left) (c .before .before .before .before .before .before .before .before .before .before .before .before .before .before .before .if2 .left) (sym (c .before .before .before .before .before .before .before .before .before .before .before .held .ensures) ∙ not-false _ (c .before .before .before .before .before .before .before .before .before .before .if4 .left)) (omega (arith, length-tab (packetAt (now (a .number)) (now (a .lane)) (now (a .bit))) (a .tally .flying), c .before .before .before .before .before .before .before .before .before .if5 .left)),
       c .turn-and-leave .ensures .1,
     )
 
@@ -149,7 +148,7 @@ returns-6 : tie.Need-returns-6
 returns-6 c =
     let a = c .before .before .before .before .before .before .before .args in (
       λ remote. ap (λ r. outcomeOf (stateAt (now (a .node)) (now (a .live)) (now (a .out)) (now (a .local)) remote (now (a .mark)) (now (a .turns)) (now (a .number)) (now (a .lane)) (now (a .bit)) (a .nodes) (a .destination) (a .links) (r .tally)) r) (c .bare3 .ensures)
-          ∙ send-full (stateAt (now (a .node)) (now (a .live)) (now (a .out)) (now (a .local)) remote (now (a .mark)) (now (a .turns)) (now (a .number)) (now (a .lane)) (now (a .bit)) (a .nodes) (a .destination) (a .links) (a .tally)) (a .v) (remote-free _ _ _ _ _ (used (2 * a .links) false remote) _ _ _ _ (c .before .before .before .before .before .before .before .pre .0)) (c .before .before .before .before .before .before .before .pre .1) (c .before .before .before .before .before .before .if1 .left) (c .before .before .before .before .before .if2 .left) (out-live (stateAt (now (a .node)) (now (a .live)) (now (a .out)) (now (a .local)) remote (now (a .mark)) (now (a .turns)) (now (a .number)) (now (a .lane)) (now (a .bit)) (a .nodes) (a .destination) (a .links) (a .tally)) (a .v) (has-way (stateAt (now (a .node)) (now (a .live)) (now (a .out)) (now (a .local)) remote (now (a .mark)) (now (a .turns)) (now (a .number)) (now (a .lane)) (now (a .bit)) (a .nodes) (a .destination) (a .links) (a .tally)) (a .v) (omega (arith, c .before .before .before .way .ensures, c .before .before .if3 .left)))) (omega (arith, c .before .if6 .taken, tab-length (packetAt (now (a .number)) (now (a .lane)) (now (a .bit))) (a .tally .flying))),
+          ∙ send-full (stateAt (now (a .node)) (now (a .live)) (now (a .out)) (now (a .local)) remote (now (a .mark)) (now (a .turns)) (now (a .number)) (now (a .lane)) (now (a .bit)) (a .nodes) (a .destination) (a .links) (a .tally)) (a .v) (remote-free _ _ _ _ _ (used (2 * a .links) false remote) _ _ _ _ (c .before .before .before .before .before .before .before .pre .0)) (c .before .before .before .before .before .before .before .pre .1) (c .before .before .before .before .before .before .if1 .left) (c .before .before .before .before .before .if2 .left) (out-live (stateAt (now (a .node)) (now (a .live)) (now (a .out)) (now (a .local)) remote (now (a .mark)) (now (a .turns)) (now (a .number)) (now (a .lane)) (now (a .bit)) (a .nodes) (a .destination) (a .links) (a .tally)) (a .v) (has-way (stateAt (now (a .node)) (now (a .live)) (now (a .out)) (now (a .local)) remote (now (a .mark)) (now (a .turns)) (now (a .number)) (now (a .lane)) (now (a .bit)) (a .nodes) (a .destination) (a .links) (a .tally)) (a .v) (omega (arith, c .before .before .before .way .ensures, c .before .before .if3 .left)))) (omega (arith, c .before .if6 .taken, length-tab (packetAt (now (a .number)) (now (a .lane)) (now (a .bit))) (a .tally .flying))),
       c .before .before .before .before .before .before .before .pre .2,
     )
 
@@ -175,7 +174,7 @@ returns-7 c =
           c .leave .ensures .0 (now (a .node)) (now (a .live)) (now (a .out)) remote (now (a .mark)) (now (a .turns)) (a .nodes) (a .destination)
           ∙ onward-by (stateAt (now (a .node)) (now (a .live)) (now (a .out)) (now (a .local)) remote (now (a .mark)) (now (a .turns)) (now (a .number)) (now (a .lane)) (now (a .bit)) (a .nodes) (a .destination) (a .links) t) (a .v) _ (a .tally .admitted) (c .before .before .before .before .before .before .before .before .way .ensures) (omega arith)
           ∙ ap (λ t. onward (stateAt (now (a .node)) (now (a .live)) (now (a .out)) (now (a .local)) remote (now (a .mark)) (now (a .turns)) (now (a .number)) (now (a .lane)) (now (a .bit)) (a .nodes) (a .destination) (a .links) t) (a .v) (a .tally .admitted)) (c .before .counted4 .ensures)
-          ∙ send-goes (stateAt (now (a .node)) (now (a .live)) (now (a .out)) (now (a .local)) remote (now (a .mark)) (now (a .turns)) (now (a .number)) (now (a .lane)) (now (a .bit)) (a .nodes) (a .destination) (a .links) (a .tally)) (a .v) (remote-free _ _ _ _ _ (used (2 * a .links) false remote) _ _ _ _ (c .before .before .before .before .before .before .before .before .before .before .before .before .pre .0)) (c .before .before .before .before .before .before .before .before .before .before .before .before .pre .1) (c .before .before .before .before .before .before .before .before .before .before .before .if1 .left) (c .before .before .before .before .before .before .before .before .before .before .if2 .left) (out-live (stateAt (now (a .node)) (now (a .live)) (now (a .out)) (now (a .local)) remote (now (a .mark)) (now (a .turns)) (now (a .number)) (now (a .lane)) (now (a .bit)) (a .nodes) (a .destination) (a .links) (a .tally)) (a .v) (has-way (stateAt (now (a .node)) (now (a .live)) (now (a .out)) (now (a .local)) remote (now (a .mark)) (now (a .turns)) (now (a .number)) (now (a .lane)) (now (a .bit)) (a .nodes) (a .destination) (a .links) (a .tally)) (a .v) (omega (arith, c .before .before .before .before .before .before .before .before .way .ensures, c .before .before .before .before .before .before .before .if3 .left)))) (omega (arith, tab-length (packetAt (now (a .number)) (now (a .lane)) (now (a .bit))) (a .tally .flying), c .before .before .before .before .before .before .if6 .left)),
+          ∙ send-goes (stateAt (now (a .node)) (now (a .live)) (now (a .out)) (now (a .local)) remote (now (a .mark)) (now (a .turns)) (now (a .number)) (now (a .lane)) (now (a .bit)) (a .nodes) (a .destination) (a .links) (a .tally)) (a .v) (remote-free _ _ _ _ _ (used (2 * a .links) false remote) _ _ _ _ (c .before .before .before .before .before .before .before .before .before .before .before .before .pre .0)) (c .before .before .before .before .before .before .before .before .before .before .before .before .pre .1) (c .before .before .before .before .before .before .before .before .before .before .before .if1 .left) (c .before .before .before .before .before .before .before .before .before .before .if2 .left) (out-live (stateAt (now (a .node)) (now (a .live)) (now (a .out)) (now (a .local)) remote (now (a .mark)) (now (a .turns)) (now (a .number)) (now (a .lane)) (now (a .bit)) (a .nodes) (a .destination) (a .links) (a .tally)) (a .v) (has-way (stateAt (now (a .node)) (now (a .live)) (now (a .out)) (now (a .local)) remote (now (a .mark)) (now (a .turns)) (now (a .number)) (now (a .lane)) (now (a .bit)) (a .nodes) (a .destination) (a .links) (a .tally)) (a .v) (omega (arith, c .before .before .before .before .before .before .before .before .way .ensures, c .before .before .before .before .before .before .before .if3 .left)))) (omega (arith, length-tab (packetAt (now (a .number)) (now (a .lane)) (now (a .bit))) (a .tally .flying), c .before .before .before .before .before .before .if6 .left)),
       record { long = c .before .before .before .before .before .before .before .before .before .before .before .before .pre .2 .long; turns-long = c .before .before .before .before .before .before .before .before .before .before .before .before .pre .2 .turns-long; room = c .leave .ensures .1 },
     )
 
