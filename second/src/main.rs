@@ -1,10 +1,12 @@
 //! The program `second`.
 
-use std::io::{Read, Write};
+use std::io::{ErrorKind, Read, Write};
+use std::path::Path;
 use std::process::ExitCode;
 
 use second::calls;
 use second::claims::Claims;
+use second::drills;
 use second::judge::told_apart;
 use second::limits::FILE;
 use second::make;
@@ -25,6 +27,9 @@ second make KIND SEED       one of a kind
 second make edge NAME       a named edge
 second make                 the kinds and the edges
 second calls SEED [PART]    calls that no file can make
+second drills               the stored drills, each with its reason
+second drills DIR           writes them and their list into a folder
+second show DIR             what is printed of the drills of a folder
 ";
 
 fn main() -> ExitCode {
@@ -42,6 +47,9 @@ fn main() -> ExitCode {
         ["wrong", from, count] => numbered(from, count, run_wrong),
         ["check", from, count] => numbered(from, count, run_check),
         ["survey", from, count] => numbered(from, count, run_survey),
+        ["drills"] => put(drills::list().as_bytes()),
+        ["drills", folder] => done(write_drills(Path::new(folder))),
+        ["show", folder] => done(show_drills(Path::new(folder))),
         ["calls", seed] => run_calls(seed, None),
         ["calls", seed, part] => run_calls(seed, Some(part)),
         _ => usage(),
@@ -113,6 +121,37 @@ fn run_calls(seed: &str, part: Option<&str>) -> ExitCode {
         Some(lines) => put(lines.as_bytes()),
         None => usage(),
     }
+}
+
+/// The exit status of a work with files; what went wrong is said.
+fn done(result: std::io::Result<()>) -> ExitCode {
+    match result {
+        Ok(()) => ExitCode::SUCCESS,
+        Err(error) => {
+            eprintln!("{error}");
+            ExitCode::FAILURE
+        }
+    }
+}
+
+fn write_drills(folder: &Path) -> std::io::Result<()> {
+    for (number, drill) in drills::all().iter().enumerate() {
+        std::fs::write(folder.join(drills::file_name(number)), &drill.bytes)?;
+    }
+    std::fs::write(folder.join("list.txt"), drills::list())
+}
+
+/// Files by their numbers, up to the first that is missing.
+fn show_drills(folder: &Path) -> std::io::Result<()> {
+    let mut out = std::io::stdout().lock();
+    for number in 0.. {
+        match std::fs::read(folder.join(drills::file_name(number))) {
+            Ok(bytes) => out.write_all(drills::shown(number, &bytes).as_bytes())?,
+            Err(error) if error.kind() == ErrorKind::NotFound => break,
+            Err(error) => return Err(error),
+        }
+    }
+    out.flush()
 }
 
 fn make_help() -> String {

@@ -7,7 +7,7 @@ mod openings;
 mod readings;
 mod records;
 mod spoil;
-mod sum;
+pub(crate) mod sum;
 mod writings;
 
 use crate::random::Random;
