@@ -19,6 +19,9 @@ extern "C" {
 /* No text is longer: so many bytes are to be lent for it. */
 #define FIDDLEROOST_TEXT_MOST 688708
 
+/* FIDDLEROOST_TEXT_MOST as the library was built with it: where this differs, header and archive do not belong together. */
+size_t fiddleroost_text_most(void);
+
 /* Writes the text of the drill file `file` to the front of `out`, and returns its length in bytes.
  *
  * What the caller owes:

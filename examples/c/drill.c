@@ -11,6 +11,10 @@ static uint8_t text[FIDDLEROOST_TEXT_MOST];
 
 int main(void)
 {
+    if (fiddleroost_text_most() != sizeof text) {
+        fputs("the header is not the library's\n", stderr);
+        return EXIT_FAILURE;
+    }
     size_t length = fread(file, 1, sizeof file, stdin);
     if (ferror(stdin)) {
         fputs("standard input could not be read\n", stderr);

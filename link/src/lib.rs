@@ -6,7 +6,14 @@ pub const TEXT_MOST: usize = 688_708;
 
 #[link(name = "fiddleroost", kind = "static")]
 extern "C" {
+    fn fiddleroost_text_most() -> usize;
     fn fiddleroost_text(file: *const u8, length: usize, out: *mut u8) -> usize;
+}
+
+/// `TEXT_MOST` as the library was built with it.
+pub fn text_most() -> usize {
+    // It takes nothing and touches nothing.
+    unsafe { fiddleroost_text_most() }
 }
 
 /// Writes the text of a file's bytes to the front of `out` and gives its

@@ -1,9 +1,14 @@
 //! Drills through the static library.
 
-use link::{text, text_into, TEXT_MOST};
+use link::{text, text_into, text_most, TEXT_MOST};
 
 const D1: &[u8] = include_bytes!("../../crates/drill/stdin");
 const D1_TEXT: &[u8] = include_bytes!("../../crates/drill/stdout");
+
+#[test]
+fn sizes_agree() {
+    assert_eq!(text_most(), TEXT_MOST);
+}
 
 #[test]
 fn d1_whole() {
