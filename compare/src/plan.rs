@@ -9,7 +9,7 @@ use second::wrong::Program;
 
 use crate::differ::{first_other, told};
 use crate::mutate::mutant;
-use crate::sides::{Library, Run, Second, Side};
+use crate::sides::{Library, Peer, Run, Second, Side};
 
 /// A file by the name from which it is made.
 pub enum Made {
@@ -91,7 +91,11 @@ impl Tally {
 
 /// All that is called as a function.
 fn functions() -> Vec<Box<dyn Side>> {
-    vec![Box::new(Library::new())]
+    let mut sides: Vec<Box<dyn Side>> = vec![Box::new(Library::new())];
+    for peer in Peer::all() {
+        sides.push(Box::new(peer));
+    }
+    sides
 }
 
 fn with_program(program: &Path) -> Vec<Box<dyn Side>> {

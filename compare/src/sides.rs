@@ -9,6 +9,7 @@ use std::thread::sleep;
 use std::time::{Duration, Instant};
 
 use link::{text_into, TEXT_MOST};
+use peer::{Queues, Row, ROOM};
 use second::text::drill;
 use second::wrong::Program;
 
@@ -59,6 +60,45 @@ impl Side for Library {
 
     fn text(&mut self, file: &[u8]) -> Vec<u8> {
         let length = text_into(file, &mut self.out);
+        self.out[..length].to_vec()
+    }
+}
+
+type PeerText = fn(&[u8], &mut [u8; ROOM]) -> usize;
+
+/// The fast peer, one of its forms.
+pub struct Peer {
+    name: &'static str,
+    text: PeerText,
+    out: Box<[u8; ROOM]>,
+}
+
+impl Peer {
+    /// Every form: the record's order without and with the check, and queues.
+    pub fn all() -> Vec<Peer> {
+        let forms: [(&str, PeerText); 3] = [
+            ("the peer", peer::text::<Row, false>),
+            ("the peer that checks", peer::text::<Row, true>),
+            ("the peer with queues", peer::text::<Queues, false>),
+        ];
+        let room = || vec![0; ROOM].try_into().expect("so many bytes");
+        forms
+            .map(|(name, text)| Peer {
+                name,
+                text,
+                out: room(),
+            })
+            .into()
+    }
+}
+
+impl Side for Peer {
+    fn name(&self) -> String {
+        self.name.into()
+    }
+
+    fn text(&mut self, file: &[u8]) -> Vec<u8> {
+        let length = (self.text)(file, &mut self.out);
         self.out[..length].to_vec()
     }
 }
