@@ -1,7 +1,7 @@
 // Decimal digits, in groups of three.
 use crate::words::byte;
 ghost use mathlib.Core.Path.{_≡_};
-ghost use Prim.Native.Nat.{_<_};
+ghost use Prim.Native.Nat.{_≤_, _<_};
 ghost use Rattle.model.specs.Text.{digits};
 ghost use Rattle.replay.specs.Puts.{Room, Put};
 ghost use Rattle.replay.specs.Digits.{lastDigit, lastDigits};
@@ -38,6 +38,15 @@ fn small(out: &mut [u8; model::TEXT_MOST], at: usize, n: usize) -> usize
     three(out, at, n)
 }
 
+// A number from a thousand to a million. The last three digits by themselves are a small number, so cheaper to divide.
+fn middle(out: &mut [u8; model::TEXT_MOST], at: usize, n: usize) -> usize
+    requires { ⌜ Room (now out) at (digits n) × (1000 ≤ n) × (n < 1000000) ⌝ }
+    ensures { λ r. ⌜ Put (now (out .entry)) at (digits n) r (now (out .exit)) ⌝ }
+{
+    let last = small(out, at, n / 1000);
+    three(out, last, n % 1000)
+}
+
 // Any number: its digits but the last three, then these. A place needs no bound of its own.
 pub(crate) fn number(out: &mut [u8; model::TEXT_MOST], at: usize, n: usize) -> usize
     requires { ⌜ Room (now out) at (digits n) ⌝ }
@@ -46,6 +55,9 @@ pub(crate) fn number(out: &mut [u8; model::TEXT_MOST], at: usize, n: usize) -> u
     if n < 1000 {
         return small(out, at, n);
     }
+    if n < 1_000_000 {
+        return middle(out, at, n);
+    }
     let last = number(out, at, n / 1000);
-    three(out, last, n)
+    three(out, last, n % 1000)
 }
