@@ -1,0 +1,86 @@
+-- So many events may still be read. Assumes nothing.
+use Prim.Native.Nat.{_≤_}
+use borrow.Author.Needs.{needs}
+use Rattle.singles.proofs.calls.Statement.{statement}
+use Rattle.singles.proofs.calls.Tie as tie
+
+abbrev Inv-loop : tie.InvT-loop
+Inv-loop file from n₀ at₀ sum₀ left₀ n at sum left = left ≤ 65537
+
+abbrev μ-loop : tie.MeasureT-loop
+μ-loop file from n₀ at₀ sum₀ left₀ n at sum left = left
+
+loop-holds : tie.Need-loop-holds Inv-loop μ-loop
+loop-holds c = search needs
+
+sub-left : tie.Need-sub-left Inv-loop μ-loop
+sub-left c = search needs
+
+read-event-requires : tie.Need-read-event-requires Inv-loop μ-loop
+read-event-requires c κs = search needs
+
+enum-known-kind : tie.Need-enum-known-kind Inv-loop μ-loop
+enum-known-kind c = search needs
+
+returns : tie.Need-returns Inv-loop μ-loop
+returns c = search needs
+
+index-requires : tie.Need-index-requires Inv-loop μ-loop
+index-requires c κs = search needs
+
+send-requires : tie.Need-send-requires Inv-loop μ-loop
+send-requires c κs = search needs
+
+deliver-requires : tie.Need-deliver-requires Inv-loop μ-loop
+deliver-requires c κs = search needs
+
+lose-requires : tie.Need-lose-requires Inv-loop μ-loop
+lose-requires c κs = search needs
+
+fail-requires : tie.Need-fail-requires Inv-loop μ-loop
+fail-requires c κs = search needs
+
+index-requires-2 : tie.Need-index-requires-2 Inv-loop μ-loop
+index-requires-2 c κs = search needs
+
+packet-code-requires : tie.Need-packet-code-requires Inv-loop μ-loop
+packet-code-requires c κs = search needs
+
+way-code-requires : tie.Need-way-code-requires Inv-loop μ-loop
+way-code-requires c κs = search needs
+
+noted-requires : tie.Need-noted-requires Inv-loop μ-loop
+noted-requires c κs = search needs
+
+loop-less : tie.Need-loop-less Inv-loop μ-loop
+loop-less c = search needs
+
+loop-again : tie.Need-loop-again Inv-loop μ-loop
+loop-again c = search needs
+
+returns-2 : tie.Need-returns-2 Inv-loop μ-loop
+returns-2 c = search needs
+
+pub calls-spec : {M : Type 1} → statement M
+calls-spec =
+    tie.close
+    (tie.spec
+    Inv-loop
+    μ-loop
+    loop-holds
+    sub-left
+    read-event-requires
+    enum-known-kind
+    returns
+    index-requires
+    send-requires
+    deliver-requires
+    lose-requires
+    fail-requires
+    index-requires-2
+    packet-code-requires
+    way-code-requires
+    noted-requires
+    loop-less
+    loop-again
+    returns-2)
