@@ -10,4 +10,5 @@ pub mod NodeList
 pub mod HeaderRead
 pub mod HeaderWritten
 pub mod Told
+pub mod Held
 pub mod OneOutcome
