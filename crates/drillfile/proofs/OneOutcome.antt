@@ -45,6 +45,8 @@ use Rattle.drillfile.proofs.reader.new as new
 use Rattle.drillfile.proofs.reader.moved as moved
 use Rattle.drillfile.proofs.reader.header as header
 use Rattle.drillfile.proofs.reader.next as next
+use Rattle.drillfile.proofs.reader.header_of.Kinds as header-of-kinds
+use Rattle.drillfile.proofs.reader.header_of.Reads as header-of
 use Rattle.drillfile.proofs.reader.next_at.Kinds as next-at-kinds
 use Rattle.drillfile.proofs.reader.next_at.Reads as next-at
 
@@ -138,6 +140,11 @@ pub write-header-one : (κs : Lfts 2) (a : Dens κs write-header-kinds.ps) (r r�
 write-header-one κs a r r′ x x′ p q = written-back (p ∙ sym q)
 
 -- ---- the reader
+pub header-of-one : (κs : Lfts 1) (a : Dens κs header-of-kinds.ps) (r r′ : Headed)
+    (x x′ : AtExit (endedOf 1 header-of-kinds.ps header-of-kinds.r) κs)
+    → header-of.Post κs a r x → header-of.Post κs a r′ x′ → Same r r′
+header-of-one κs a r r′ x x′ = header-same r r′
+
 pub next-at-one : OneAnswer 1 next-at-kinds.ps next-at-kinds.r next-at.Post
 next-at-one κs a r r′ x x′ = got-same r r′
 

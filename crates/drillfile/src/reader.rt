@@ -57,6 +57,13 @@ pub fn next<'a>(r: Reader<'a>) -> Got
     event_at(r.file, r.at)
 }
 
+// The header that a new reader gives, for callers that hold only the slice.
+pub fn header_of(file: &[u8]) -> Headed
+    ensures { λ h. ⌜ HeaderPost 0 (readHeader (now (file .entry)) 0) h ⌝ }
+{
+    header(new(file))
+}
+
 // What a reader moved to a position gives next, for callers that hold only a slice and a number.
 pub fn next_at(file: &[u8], at: usize) -> Got
     ensures { λ g. ⌜ seen g ≡ eventAt (now (file .entry)) at ⌝ }

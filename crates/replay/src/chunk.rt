@@ -1,5 +1,4 @@
 // Events read some at a time, so that the record's check is paid once for all of them.
-use drillfile::Cursor;
 use drillfile::Got;
 ghost use mathlib.Core.Path.{_≡_};
 ghost use Prim.Native.Nat.{_≤_};
@@ -40,7 +39,7 @@ pub(crate) fn gather(
     let mut at = from;
     let mut i: usize = 0;
     while i < CHUNK {
-        match drillfile::read_event(file, Cursor { at }) {
+        match drillfile::reader::next_at(file, at) {
             Got::Event {
                 kind,
                 argument,

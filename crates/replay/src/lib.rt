@@ -7,7 +7,6 @@ mod play;
 mod run;
 mod words;
 
-use drillfile::Cursor;
 ghost use mathlib.Core.Path.{_≡_};
 ghost use lib.ListN.{length};
 ghost use Rattle.replay.specs.Texts.{TextPost};
@@ -29,7 +28,7 @@ pub fn text(file: &[u8], out: &mut [u8; model::TEXT_MOST]) -> usize
     if model::FILE < file.len() {
         return lines::refused(out, 0, lines::SPOILT, model::FILE);
     }
-    let header = drillfile::read_header(file, Cursor { at: 0 });
+    let header = drillfile::reader::header_of(file);
     let answer = header.answer;
     if answer != DONE {
         return lines::refused(out, 0, fields::wide(answer), header.place);

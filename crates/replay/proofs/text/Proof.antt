@@ -24,8 +24,8 @@ returns c =
     let size = at-size .size-arg2 .given .0 in
     text-put (now (a .file)) (now (a .out)) size (last (long (now (a .file)) (now (a .out)) size (at-if .if1 .taken)) (c .refused .ensures))
 
-read-header-requires : tie.Need-read-header-requires
-read-header-requires c κs = search needs
+header-of-requires : tie.Need-header-of-requires
+header-of-requires c κs = search needs
 
 wide-requires : tie.Need-wide-requires
 wide-requires c κs = search needs
@@ -38,8 +38,8 @@ refused-requires-2 c κs =
     let at-size = at-if .before .before in
     let a = at-size .before .before .before .args in
     room-all
-    (no-header (now (a .file)) (now (a .out)) (at-size .size-arg2 .given .0) (at-if .if1 .left) (at-header .read-header .result)
-    (at-header .read-header .ensures) (c .wide .ensures) (at-two .if2 .taken))
+    (no-header (now (a .file)) (now (a .out)) (at-size .size-arg2 .given .0) (at-if .if1 .left) (at-header .header-of .result)
+    (at-header .header-of .ensures) (c .wide .ensures) (at-two .if2 .taken))
 
 returns-2 : tie.Need-returns-2
 returns-2 c =
@@ -52,7 +52,7 @@ returns-2 c =
     let size = at-size .size-arg2 .given .0 in
     text-put (now (a .file)) (now (a .out)) size
     (last
-    (no-header (now (a .file)) (now (a .out)) size (at-if .if1 .left) (at-header .read-header .result) (at-header .read-header .ensures)
+    (no-header (now (a .file)) (now (a .out)) size (at-if .if1 .left) (at-header .header-of .result) (at-header .header-of .ensures)
     (at-wide .wide .ensures) (at-two .if2 .taken))
     (c .refused2 .ensures))
 
@@ -64,8 +64,8 @@ run-requires c κs =
     let at-size = at-if .before .before in
     let a = at-size .before .before .before .args in
     let size = at-size .size-arg2 .given .0 in
-    let r = at-header .read-header .result in
-    let post = at-header .read-header .ensures in
+    let r = at-header .header-of .result in
+    let post = at-header .header-of .ensures in
     runs (now (a .file)) (now (a .out)) size (at-if .if1 .left) r post (at-two .if2 .left)
 
 returns-3 : tie.Need-returns-3
@@ -78,7 +78,7 @@ returns-3 c =
     let size = at-size .size-arg2 .given .0 in
     text-put (now (a .file)) (now (a .out)) size
     (last
-    (header (now (a .file)) (now (a .out)) size (at-if .if1 .left) (at-header .read-header .result) (at-header .read-header .ensures)
+    (header (now (a .file)) (now (a .out)) size (at-if .if1 .left) (at-header .header-of .result) (at-header .header-of .ensures)
     (at-two .if2 .left))
     (c .run .ensures))
 
@@ -89,7 +89,7 @@ text-spec =
     size-requires
     refused-requires
     returns
-    read-header-requires
+    header-of-requires
     wide-requires
     refused-requires-2
     returns-2

@@ -23,8 +23,8 @@ loop-holds c =
     gathers-none (now (start .args .file)) (start .args .from) (now (start .args .kinds)) (now (start .args .arguments)) (start .pre .0)
     (start .pre .1) (start .pre .2)
 
-read-event-requires : tie.Need-read-event-requires Inv-loop μ-loop
-read-event-requires c κs = search needs
+next-at-requires : tie.Need-next-at-requires Inv-loop μ-loop
+next-at-requires c κs = search needs
 
 enum-known-kind : tie.Need-enum-known-kind Inv-loop μ-loop
 enum-known-kind c = search needs
@@ -55,7 +55,7 @@ loop-again c =
     let loop = test .before in
     let start = loop .before .before in
     gathers-more (now (start .args .file)) (start .args .from) _ _ _ _ _ _ _ (loop .loop .inv) (test .loop-test .taken)
-    (ap seen (sym (at-kind .kind .given .1)) ∙ at-read .read-event .ensures)
+    (ap seen (sym (at-kind .kind .given .1)) ∙ at-read .next-at .ensures)
 
 enum-told : tie.Need-enum-told Inv-loop μ-loop
 enum-told c = search needs
@@ -70,7 +70,7 @@ returns c =
     let loop = at-read .before .before in
     let start = loop .before .before in
     gathered End (c .stopped .ensures) (loop .loop .inv)
-    (reads-end (now (start .args .file)) (loop .loop .at) _ (ap seen (sym (told .enum-told .given .1)) ∙ at-read .read-event .ensures))
+    (reads-end (now (start .args .file)) (loop .loop .at) _ (ap seen (sym (told .enum-told .given .1)) ∙ at-read .next-at .ensures))
 
 enum-known-place : tie.Need-enum-known-place Inv-loop μ-loop
 enum-known-place c = search needs
@@ -85,7 +85,7 @@ returns-2 c =
     let loop = at-read .before .before in
     let start = loop .before .before in
     gathered (Spoilt _) (c .stopped2 .ensures) (loop .loop .inv)
-    (reads-spoilt (now (start .args .file)) (loop .loop .at) _ _ (ap seen (sym (at-place .place .given .1)) ∙ at-read .read-event .ensures))
+    (reads-spoilt (now (start .args .file)) (loop .loop .at) _ _ (ap seen (sym (at-place .place .given .1)) ∙ at-read .next-at .ensures))
 
 stopped-requires-3 : tie.Need-stopped-requires-3 Inv-loop μ-loop
 stopped-requires-3 c κs = search needs
@@ -103,7 +103,7 @@ gather-spec =
     Inv-loop
     μ-loop
     loop-holds
-    read-event-requires
+    next-at-requires
     enum-known-kind
     mul-kinds
     element-write-kinds
