@@ -5,6 +5,7 @@ use libc::STDIN_FILENO;
 use libc::STDOUT_FILENO;
 use model::Handled;
 use model::Went;
+use network::Moved;
 use network::Network;
 use steps::DELIVER;
 use steps::LOSE;
@@ -54,6 +55,20 @@ fn index(x: u32) -> usize {
     x as usize
 }
 
+// One place that calls, so that the caller copies the record no more than it must.
+fn called(n: Network, kind: u32, a: usize) -> Moved {
+    if kind == SEND {
+        return n.send(a);
+    }
+    if kind == DELIVER {
+        return n.deliver(a);
+    }
+    if kind == LOSE {
+        return n.lose(a);
+    }
+    n.fail(a)
+}
+
 // As many events as there are bytes at most: each has two.
 fn calls(file: &[u8], from: usize, opened: Network) -> usize {
     let mut n = opened;
@@ -72,15 +87,7 @@ fn calls(file: &[u8], from: usize, opened: Network) -> usize {
         };
         at = next.at;
         let a = index(argument);
-        let m = if kind == SEND {
-            n.send(a)
-        } else if kind == DELIVER {
-            n.deliver(a)
-        } else if kind == LOSE {
-            n.lose(a)
-        } else {
-            n.fail(a)
-        };
+        let m = called(n, kind, a);
         let handled = m.handled;
         let went = m.went;
         sum = noted(sum, index(m.answer), packet_code(handled), way_code(went));

@@ -28,17 +28,8 @@ returns c = search needs
 index-requires : tie.Need-index-requires Inv-loop μ-loop
 index-requires c κs = search needs
 
-send-requires : tie.Need-send-requires Inv-loop μ-loop
-send-requires c κs = search needs
-
-deliver-requires : tie.Need-deliver-requires Inv-loop μ-loop
-deliver-requires c κs = search needs
-
-lose-requires : tie.Need-lose-requires Inv-loop μ-loop
-lose-requires c κs = search needs
-
-fail-requires : tie.Need-fail-requires Inv-loop μ-loop
-fail-requires c κs = search needs
+called-requires : tie.Need-called-requires Inv-loop μ-loop
+called-requires c κs = search needs
 
 index-requires-2 : tie.Need-index-requires-2 Inv-loop μ-loop
 index-requires-2 c κs = search needs
@@ -73,10 +64,7 @@ calls-spec =
     enum-known-kind
     returns
     index-requires
-    send-requires
-    deliver-requires
-    lose-requires
-    fail-requires
+    called-requires
     index-requires-2
     packet-code-requires
     way-code-requires
