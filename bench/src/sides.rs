@@ -12,6 +12,9 @@ pub const PEER: &str = "peer";
 pub const QUEUES: &str = "queues";
 pub const PEER_CHECKS: &str = "peer-checks";
 
+/// The same without the check, to tell what that costs.
+const PEER_CALLS: &str = "peer-calls";
+
 /// Not a function but the program of crates/singles.
 pub const SINGLES: &str = "singles";
 
@@ -36,7 +39,8 @@ impl Buffers {
             LIBRARY => text_into(file, &mut self.library) as u64,
             PEER => peer::text::<Row, false>(file, &mut self.peer) as u64,
             QUEUES => peer::text::<Queues, false>(file, &mut self.peer) as u64,
-            PEER_CHECKS => singles(file),
+            PEER_CHECKS => singles::<true>(file),
+            PEER_CALLS => singles::<false>(file),
             _ => return None,
         })
     }
@@ -51,9 +55,9 @@ impl Buffers {
     }
 }
 
-/// The sum of what the events of a file give, each after a check of its own,
-/// as crates/singles makes it.
-fn singles(file: &[u8]) -> u64 {
+/// The sum of what the events of a file give, with `CHECK` each after a check
+/// of its own, as crates/singles makes it.
+fn singles<const CHECK: bool>(file: &[u8]) -> u64 {
     let Ok((mut net, mut at)) = open::<Row>(file) else {
         return 1;
     };
@@ -67,15 +71,15 @@ fn singles(file: &[u8]) -> u64 {
             break;
         };
         at = next;
-        sum = noted(sum, call(&mut net, kind, argument));
+        sum = noted(sum, call::<Row, CHECK>(&mut net, kind, argument));
     }
     sum
 }
 
 /// A call of its own for each event, as the proved calls are.
 #[inline(never)]
-fn call<F: Flight>(net: &mut Net<F>, kind: u8, argument: usize) -> Outcome {
-    net.apply::<true>(kind, argument)
+fn call<F: Flight, const CHECK: bool>(net: &mut Net<F>, kind: u8, argument: usize) -> Outcome {
+    net.apply::<CHECK>(kind, argument)
 }
 
 fn noted(sum: u64, outcome: Outcome) -> u64 {

@@ -10,7 +10,8 @@ use crate::ROOM;
 const FILE: usize = 65_536;
 
 /// Writes the text of a file's bytes to the front of `out` and gives its
-/// length.
+/// length. Never part of its caller, so that it is the same code in each.
+#[inline(never)]
 pub fn text<F: Flight, const CHECK: bool>(file: &[u8], out: &mut [u8; ROOM]) -> usize {
     let mut pen = Pen::new(out);
     if file.len() > FILE {
