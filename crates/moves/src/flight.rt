@@ -7,7 +7,7 @@ ghost use mathlib.Core.Bool.{false};
 ghost use mathlib.Core.List.{[], _∷_, _++_};
 ghost use Prim.Native.Nat.{_+_, _≤_, _<_};
 ghost use lib.ListN.{length};
-ghost use Rattle.model.specs.Limits.{flightMost};
+ghost use Rattle.model.specs.Limits.{endsMost, flightMost};
 ghost use Rattle.model.specs.Fail.{off};
 ghost use Rattle.arrays.specs.Flight.{moves, slots, Slots, packets};
 ghost use Rattle.moves.specs.Moves.{Moved, Removed};
@@ -113,7 +113,7 @@ pub fn put(
     x: usize,
     b: bool,
 )
-    requires { ⌜ (flying < flightMost) × (x < 65536) × Slots (now number) (now lane) (now bit) ⌝ }
+    requires { ⌜ (flying < flightMost) × (x < endsMost) × Slots (now number) (now lane) (now bit) ⌝ }
     ensures { λ r. ⌜ (packets (now (number .exit)) (now (lane .exit)) (now (bit .exit)) (flying + 1) ≡ packets (now (number .entry)) (now (lane .entry)) (now (bit .entry)) flying ++ (record { number = n; lane = x; bit = b } ∷ [])) × Slots (now (number .exit)) (now (lane .exit)) (now (bit .exit)) ⌝ }
 {
     number[flying] = n;

@@ -32,7 +32,7 @@ fn input() -> [u8; INPUT]
 fn packet_code(h: Handled) -> usize {
     match h {
         Handled::Packet(n) => n as usize,
-        Handled::Nothing => 1_000_000,
+        Handled::Nothing => model::EVENTS as usize,
     }
 }
 
@@ -40,10 +40,10 @@ fn packet_code(h: Handled) -> usize {
 fn way_code(w: Went) -> usize {
     match w {
         Went::Lane(x) => x,
-        Went::Delivered => 512,
-        Went::Lost => 513,
-        Went::Stranded => 514,
-        Went::Nowhere => 515,
+        Went::Delivered => model::ENDS,
+        Went::Lost => model::ENDS + 1,
+        Went::Stranded => model::ENDS + 2,
+        Went::Nowhere => model::ENDS + 3,
     }
 }
 
