@@ -1,12 +1,10 @@
 -- The ways through a send. Assumes nothing.
 use Prim.Native.Nat.{ℕ, _≤_, _<_}
 use mathlib.Core.Path.{_≡_, refl}
-use mathlib.Core.Logic.{inl, inr}
-use mathlib.Core.Bool.{Bool, true, false, _&&_, _||_}
-use lib.Dec.{ltb, eqb}
+use mathlib.Core.Bool.{Bool, true, false, _&&_}
+use lib.Dec.{eqb}
 use lib.ListN.{length}
-use native.Mathlib.Omega.{arith}
-use borrow.Author.Tests.{ltb-true, le-leb, lt-leb, eq-eqb, ne-eqb}
+use borrow.Author.Tests.{le-leb, lt-leb, eq-eqb, ne-eqb}
 use Rattle.model.specs.declared.Went.the-variants as went
 use Rattle.model.specs.Limits.{flightMost, eventsMost}
 use Rattle.model.specs.Answers as answers
@@ -15,26 +13,13 @@ use Rattle.model.specs.Formed.{wellFormed}
 use Rattle.model.specs.Departure.{liveAt, outAt, hasLive, hasOut}
 use Rattle.model.specs.Outcome.{refuse, accepting, counted, gives, onward}
 use Rattle.model.specs.Send.{sendTo}
-use Rattle.model.specs.Below.{first}
-use Rattle.model.proofs.Below.{look, clash, and-both, any-here, any-found}
-use Rattle.steps.proofs.Ways.{has-way}
+use Rattle.model.proofs.Below.{and-both, any-here, any-found}
 
 pub out-live : (s : State) (v : ℕ) → hasOut s v ≡ true → hasLive s v ≡ true
 unfolding hasOut hasLive
 out-live s v e =
     let f = any-found (outAt s v) (lanes s) e in
     any-here (liveAt s v) (lanes s) (f .0) (f .1) (and-both (liveAt s v (f .0)) (s .ends .out (f .0)) (f .2) .0)
-
--- a way out x, or a live end
-pub never-ready : (a b : Bool) → (a || b) ≡ false → b ≡ false
-never-ready true b e = absurd (clash refl e)
-never-ready false b e = e
-
-pub ready-live : (s : State) (v x : ℕ) → x ≡ first (outAt s v) 0 (lanes s) → (ltb x (lanes s) || hasLive s v) ≡ true → hasLive s v ≡ true
-ready-live s v x w e = elim (look (ltb x (lanes s))) [
-  | inl l ↦ out-live s v (has-way s v (omega (arith, w, ltb-true x (lanes s) l)))
-  | inr l ↦ rw l at e
-]
 
 module _ (s : State) (v : ℕ) (formed : wellFormed s ≡ true) (room : s .counts .events < eventsMost) where
   pub send-no-such : s .net .nodes ≤ v → refuse s answers.noSuch ≡ sendTo s v

@@ -13,11 +13,9 @@ ghost use mathlib.Core.List.{List, []};
 ghost use Prim.Native.Nat.{ℕ, _*_, _≤_, _<_};
 ghost use lib.ListN.{getD, length};
 ghost use Rattle.model.specs.Limits.{linksMost, nodesMost, flightMost, eventsMost};
-ghost use Rattle.model.specs.Below.{first};
-ghost use Rattle.model.specs.Departure.{outAt, hasLive};
-ghost use Rattle.model.specs.Outcome.{leaves, onward as onwardOf};
+ghost use Rattle.model.specs.Departure.{hasLive, hasOut, turn as turnOf};
+ghost use Rattle.model.specs.Outcome.{leaves, leavesBy, onward as onwardOf};
 ghost use Rattle.arrays.specs.Flight.{Slots};
-ghost use Rattle.arrays.specs.View.{endsSeen};
 ghost use Rattle.steps.specs.Steps.{stateAt, outcomeOf, Room, Chained, MarksLive};
 
 // The packet n leaves by end x.
@@ -47,8 +45,8 @@ pub(crate) fn leave(
     }
 }
 
-// Node v, which has a live end, and x, its lowest Out end or past all: without one it turns first; then the packet n leaves.
-pub(crate) fn depart<'a>(
+// Node v, which has no Out end but a live one, turns; then the packet n leaves by the lowest.
+pub(crate) fn turn_and_leave<'a>(
     node: &'a [u16; model::ENDS],
     heads: &'a [u16; model::NODES],
     next: &'a [u16; model::ENDS],
@@ -65,18 +63,14 @@ pub(crate) fn depart<'a>(
     links: usize,
     tally: Tally,
     v: usize,
-    x: usize,
     n: u32,
 ) -> Step
-    requires { ⌜ (links ≤ linksMost) × (nodes ≤ nodesMost) × (v < nodes) × (getD (now turns) v 0 ≤ eventsMost) × (tally .flying < flightMost) × (hasLive (stateAt (now node) (now live) (now out) (now local) [] (now mark) (now turns) (now number) (now lane) (now bit) nodes 0 links tally) v ≡ true) × (x ≡ first (outAt (endsSeen links (now node) (now live) (now out) [] []) v) 0 (2 * links)) × Room (now out) (now local) (now mark) (now turns) (now number) (now lane) (now bit) × Chained chained links (now node) (now heads) (now next) × MarksLive links (now live) (now mark) ⌝ }
-    ensures { λ r. ⌜ ((remote : List Bool) (destination : ℕ) → outcomeOf (stateAt (now (node .entry)) (now (live .entry)) (now (out .exit)) (now (local .exit)) remote (now (mark .exit)) (now (turns .exit)) (now (number .exit)) (now (lane .exit)) (now (bit .exit)) nodes destination links (r .tally)) r ≡ onwardOf (stateAt (now (node .entry)) (now (live .entry)) (now (out .entry)) (now (local .entry)) remote (now (mark .entry)) (now (turns .entry)) (now (number .entry)) (now (lane .entry)) (now (bit .entry)) nodes destination links tally) v n) × Room (now (out .exit)) (now (local .exit)) (now (mark .exit)) (now (turns .exit)) (now (number .exit)) (now (lane .exit)) (now (bit .exit)) ⌝ }
+    requires { ⌜ (links ≤ linksMost) × (nodes ≤ nodesMost) × (v < nodes) × (getD (now turns) v 0 ≤ eventsMost) × (tally .flying < flightMost) × (hasOut (turnOf (stateAt (now node) (now live) (now out) (now local) [] (now mark) (now turns) (now number) (now lane) (now bit) nodes 0 links tally) v) v ≡ true) × Room (now out) (now local) (now mark) (now turns) (now number) (now lane) (now bit) × Chained chained links (now node) (now heads) (now next) ⌝ }
+    ensures { λ r. ⌜ ((remote : List Bool) (destination : ℕ) → outcomeOf (stateAt (now (node .entry)) (now (live .entry)) (now (out .exit)) (now (local .exit)) remote (now (mark .exit)) (now (turns .exit)) (now (number .exit)) (now (lane .exit)) (now (bit .exit)) nodes destination links (r .tally)) r ≡ leavesBy (turnOf (stateAt (now (node .entry)) (now (live .entry)) (now (out .entry)) (now (local .entry)) remote (now (mark .entry)) (now (turns .entry)) (now (number .entry)) (now (lane .entry)) (now (bit .entry)) nodes destination links tally) v) v n) × Room (now (out .exit)) (now (local .exit)) (now (mark .exit)) (now (turns .exit)) (now (number .exit)) (now (lane .exit)) (now (bit .exit)) ⌝ }
 {
-    if x < 2 * links {
-        return leave(local, number, lane, bit, links, tally, x, n);
-    }
     turn(node, live, out, local, mark, turns, links, v);
-    let w = way(node, heads, next, chained, live, out, links, v);
-    leave(local, number, lane, bit, links, tally, w, n)
+    let x = way(node, heads, next, chained, live, out, links, v);
+    leave(local, number, lane, bit, links, tally, x, n)
 }
 
 // Node v, which has a live end, makes its departure update; then the packet n leaves by the lowest Out end.
@@ -103,24 +97,26 @@ pub(crate) fn onward<'a>(
     ensures { λ r. ⌜ ((remote : List Bool) (destination : ℕ) → outcomeOf (stateAt (now (node .entry)) (now (live .entry)) (now (out .exit)) (now (local .exit)) remote (now (mark .exit)) (now (turns .exit)) (now (number .exit)) (now (lane .exit)) (now (bit .exit)) nodes destination links (r .tally)) r ≡ onwardOf (stateAt (now (node .entry)) (now (live .entry)) (now (out .entry)) (now (local .entry)) remote (now (mark .entry)) (now (turns .entry)) (now (number .entry)) (now (lane .entry)) (now (bit .entry)) nodes destination links tally) v n) × Room (now (out .exit)) (now (local .exit)) (now (mark .exit)) (now (turns .exit)) (now (number .exit)) (now (lane .exit)) (now (bit .exit)) ⌝ }
 {
     let x = way(node, heads, next, chained, live, out, links, v);
-    depart(
-        node,
-        heads,
-        next,
-        chained,
-        live,
-        out,
-        local,
-        mark,
-        turns,
-        number,
-        lane,
-        bit,
-        nodes,
-        links,
-        tally,
-        v,
-        x,
-        n,
-    )
+    if 2 * links <= x {
+        return turn_and_leave(
+            node,
+            heads,
+            next,
+            chained,
+            live,
+            out,
+            local,
+            mark,
+            turns,
+            number,
+            lane,
+            bit,
+            nodes,
+            links,
+            tally,
+            v,
+            n,
+        );
+    }
+    leave(local, number, lane, bit, links, tally, x, n)
 }

@@ -1,7 +1,6 @@
 // Send at a node.
-use crate::answers::FLIGHT_FULL;
-use crate::answers::NO_SUCH;
-use crate::depart::depart;
+use crate::depart::leave;
+use crate::depart::turn_and_leave;
 use crate::tally::Step;
 use crate::tally::bare;
 use crate::tally::counted;
@@ -12,33 +11,13 @@ use model::Went;
 use moves::held;
 use moves::way;
 ghost use mathlib.Core.Path.{_≡_};
-ghost use mathlib.Core.Bool.{Bool, true, _||_};
+ghost use mathlib.Core.Bool.{Bool, true};
 ghost use mathlib.Core.List.{List, []};
-ghost use Prim.Native.Nat.{ℕ, _*_, _≤_, _<_};
-ghost use lib.Dec.{ltb};
-ghost use Rattle.model.specs.Limits.{nodesMost, linksMost, eventsMost};
-ghost use Rattle.model.specs.Departure.{hasLive};
+ghost use Prim.Native.Nat.{ℕ, _<_};
+ghost use Rattle.model.specs.Limits.{eventsMost};
 ghost use Rattle.model.specs.Formed.{wellFormed};
 ghost use Rattle.model.specs.Send.{sendTo};
-ghost use Rattle.arrays.specs.View.{endsSeen};
 ghost use Rattle.steps.specs.Steps.{stateAt, outcomeOf, Room, Chained};
-
-// A node with a way out has a live link; the others are asked.
-fn ready<'a>(
-    node: &'a [u16; model::ENDS],
-    live: &'a [bool; model::LINKS],
-    links: usize,
-    v: usize,
-    x: usize,
-) -> bool
-    requires { ⌜ (links ≤ linksMost) × (v < nodesMost) ⌝ }
-    ensures { λ r. ⌜ r ≡ (ltb x (2 * links) || hasLive (endsSeen links (now (node .entry)) (now (live .entry)) [] [] []) v) ⌝ }
-{
-    if x < 2 * links {
-        return true;
-    }
-    held(node, live, links, v as u16)
-}
 
 pub(crate) fn send_step<'a>(
     node: &'a [u16; model::ENDS],
@@ -63,7 +42,7 @@ pub(crate) fn send_step<'a>(
     ensures { λ r. ⌜ ((remote : List Bool) → outcomeOf (stateAt (now (node .entry)) (now (live .entry)) (now (out .exit)) (now (local .exit)) remote (now (mark .exit)) (now (turns .exit)) (now (number .exit)) (now (lane .exit)) (now (bit .exit)) nodes destination links (r .tally)) r ≡ sendTo (stateAt (now (node .entry)) (now (live .entry)) (now (out .entry)) (now (local .entry)) remote (now (mark .entry)) (now (turns .entry)) (now (number .entry)) (now (lane .entry)) (now (bit .entry)) nodes destination links tally) v) × Room (now (out .exit)) (now (local .exit)) (now (mark .exit)) (now (turns .exit)) (now (number .exit)) (now (lane .exit)) (now (bit .exit)) ⌝ }
 {
     if nodes <= v {
-        return bare(tally, NO_SUCH);
+        return bare(tally, 6);
     }
     let n = tally.admitted;
     let flying = tally.flying;
@@ -71,30 +50,44 @@ pub(crate) fn send_step<'a>(
         return done(counted(tally, flying, 1, 1, 0, 0), n, Went::Delivered);
     }
     let x = way(node, heads, next, chained, live, out, links, v);
-    if !ready(node, live, links, v, x) {
-        return done(counted(tally, flying, 1, 0, 0, 1), n, Went::Stranded);
+    if 2 * links <= x {
+        if !held(node, live, links, v as u16) {
+            return done(counted(tally, flying, 1, 0, 0, 1), n, Went::Stranded);
+        }
+        if model::FLIGHT <= flying {
+            return bare(tally, 9);
+        }
+        let t = counted(tally, flying, 1, 0, 0, 0);
+        return turn_and_leave(
+            node,
+            heads,
+            next,
+            chained,
+            live,
+            out,
+            local,
+            mark,
+            turns,
+            number,
+            lane,
+            bit,
+            nodes,
+            links,
+            t,
+            v,
+            n,
+        );
     }
     if model::FLIGHT <= flying {
-        return bare(tally, FLIGHT_FULL);
+        return bare(tally, 9);
     }
-    let t = counted(tally, flying, 1, 0, 0, 0);
-    depart(
-        node,
-        heads,
-        next,
-        chained,
-        live,
-        out,
+    leave(
         local,
-        mark,
-        turns,
         number,
         lane,
         bit,
-        nodes,
         links,
-        t,
-        v,
+        counted(tally, flying, 1, 0, 0, 0),
         x,
         n,
     )
