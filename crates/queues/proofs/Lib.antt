@@ -1,0 +1,7 @@
+pub mod Standing
+pub mod Takes
+pub mod Pushes
+pub mod Cuts
+pub mod Oldest
+pub mod Gathered
+pub mod Threads
