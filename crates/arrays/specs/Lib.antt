@@ -1,3 +1,4 @@
 pub mod View
 pub mod Flight
 pub mod Formed
+pub mod Told

@@ -32,6 +32,14 @@ pub struct Tally {
     pub stranded: u32,
 }
 
+// What the packets in flight tell an event: the oldest of its lane, or how many are on its link.
+pub struct Told {
+    pub there: bool,
+    pub number: u32,
+    pub bit: bool,
+    pub gone: usize,
+}
+
 // "A record is well formed when ..": the check reads neither the bits of ends nor those of packets.
 pub fn formed<'a>(
     node: &'a [u16; model::ENDS],

@@ -16,7 +16,7 @@ pub struct Threads {
 }
 
 // From the last end to the first, each becomes the head of its node's chain.
-pub(crate) fn thread(node: &[u16; model::ENDS], links: usize) -> Threads
+pub fn thread(node: &[u16; model::ENDS], links: usize) -> Threads
     requires { ⌜ (links ≤ linksMost) × Named nodesMost links (now node) ⌝ }
     ensures { λ r. ⌜ ((v : ℕ) → v < nodesMost → Chain links (now (node .entry)) (r .heads) (r .next) v) ⌝ }
 {

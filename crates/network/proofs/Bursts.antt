@@ -20,7 +20,8 @@ use Rattle.steps.specs.Call.{call}
 use Rattle.network.specs.Calls.{calls, callAt, packetCode, wayCode, least, filled, Lists}
 use Rattle.steps.proofs.Calls.{call-keeps, call-not-formed}
 
-fills : (f : ℕ → ℕ) (k : ℕ) (xs : List ℕ) → k < length xs → set (filled f k xs) k (f k) ≡ filled f (suc k) xs
+-- one entry more
+pub fills : (f : ℕ → ℕ) (k : ℕ) (xs : List ℕ) → k < length xs → set (filled f k xs) k (f k) ≡ filled f (suc k) xs
 unfolding tab
 fills f k [] h = absurd (omega arith)
 fills f zero (x ∷ xs) h = refl

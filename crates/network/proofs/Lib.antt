@@ -4,4 +4,7 @@ pub mod Filled
 pub mod Openings
 pub mod OneOutcome
 pub mod Bursts
+pub mod Going
 pub mod Runs
+pub mod InFlight
+pub mod Refusals

@@ -1,18 +1,27 @@
 // Events one after the other, on the arrays of a record that was checked once.
-use arrays::SLOTS;
 use arrays::Tally;
+use flight::queued::ask;
+use flight::queued::carry;
+use flight::queued::room_for_one;
 use model::Handled;
 use model::Went;
+use queues::ROOM;
 use steps::Step;
 use steps::step;
 ghost use mathlib.Core.Path.{_≡_};
-ghost use mathlib.Core.Bool.{Bool};
+ghost use mathlib.Core.Bool.{Bool, true};
 ghost use mathlib.Core.List.{List};
-ghost use Prim.Native.Nat.{ℕ, _≤_, _<_};
+ghost use Prim.Native.Nat.{ℕ, _+_, _≤_, _<_};
 ghost use lib.ListN.{length, set};
+ghost use Rattle.model.specs.Answers as answers;
+ghost use Rattle.model.specs.Limits.{endsMost, eventsMost};
 ghost use Rattle.model.specs.Formed.{wellFormed};
-ghost use Rattle.steps.specs.Steps.{stateAt, Chained, Whole};
-ghost use Rattle.network.specs.Calls.{calls, packetCode, wayCode, least, Lists};
+ghost use Rattle.queues.specs.Queue.{room, flown, Roomy, Queued};
+ghost use Rattle.steps.specs.Steps.{stateWith, Chained, Whole};
+ghost use Rattle.network.specs.Calls.{calls, packetCode, wayCode, least, filled, Lists};
+
+// The answer of a record that is not well formed.
+pub(crate) const NOT_FORMED: u32 = 1;
 
 // An argument as an index.
 pub(crate) fn index(x: u32) -> usize
@@ -69,21 +78,44 @@ fn note(answers: &mut [u32], packets: &mut [u32], ways: &mut [usize], k: usize, 
     ways[k] = way_code(went);
 }
 
+// A record that is not well formed: every call is refused with 1.
+pub(crate) fn refuse_all(answers: &mut [u32], packets: &mut [u32], ways: &mut [usize], count: usize)
+    requires { ⌜ (count ≤ length (now answers)) × (count ≤ length (now packets)) × (count ≤ length (now ways)) ⌝ }
+    ensures { λ _. ⌜ (now (answers .exit) ≡ filled (λ i. 1) count (now (answers .entry))) × (now (packets .exit) ≡ filled (λ i. eventsMost) count (now (packets .entry))) × (now (ways .exit) ≡ filled (λ i. endsMost + 3) count (now (ways .entry))) ⌝ }
+{
+    let mut i: usize = 0;
+    while i < count {
+        let k = i;
+        i += 1;
+        answers[k] = NOT_FORMED;
+        packets[k] = model::EVENTS;
+        ways[k] = model::ENDS + 3;
+    }
+}
+
+// What a run of events leaves beside the arrays: the counts, and how many slots are in use.
+pub(crate) struct Ran {
+    pub tally: Tally,
+    pub used: usize,
+}
+
+// The events, one after the other; the packets tell each, and move as it answers.
 pub(crate) fn run<'a>(
-    formed: bool,
     node: &'a [u16; model::ENDS],
     heads: &'a [u16; model::NODES],
     next: &'a [u16; model::ENDS],
-    chained: bool,
     live: &mut [bool; model::LINKS],
     out: &mut [bool; model::ENDS],
     local: &mut [bool; model::ENDS],
     remote: &mut [bool; model::ENDS],
     mark: &mut [bool; model::ENDS],
     turns: &mut [u32; model::NODES],
-    number: &mut [u32; SLOTS],
-    lane: &mut [u16; SLOTS],
-    bit: &mut [bool; SLOTS],
+    number: &mut [u32; ROOM],
+    lane: &mut [u16; ROOM],
+    bit: &mut [bool; ROOM],
+    first: &mut [u16; model::ENDS],
+    last: &mut [u16; model::ENDS],
+    after: &mut [u16; ROOM],
     nodes: usize,
     destination: usize,
     links: usize,
@@ -94,41 +126,62 @@ pub(crate) fn run<'a>(
     packets: &mut [u32],
     ways: &mut [usize],
     count: usize,
-) -> Tally
-    requires { ⌜ (formed ≡ wellFormed (stateAt (now node) (now live) (now out) (now local) (now remote) (now mark) (now turns) (now number) (now lane) (now bit) nodes destination links tally)) × Whole (now live) (now out) (now local) (now remote) (now mark) (now turns) (now number) (now lane) (now bit) × Chained chained links (now node) (now heads) (now next) × (count ≤ length (now kinds)) × (count ≤ length (now arguments)) × (count ≤ length (now answers)) × (count ≤ length (now packets)) × (count ≤ length (now ways)) ⌝ }
-    ensures { λ r. ⌜ (stateAt (now (node .entry)) (now (live .exit)) (now (out .exit)) (now (local .exit)) (now (remote .exit)) (now (mark .exit)) (now (turns .exit)) (now (number .exit)) (now (lane .exit)) (now (bit .exit)) nodes destination links r ≡ calls (stateAt (now (node .entry)) (now (live .entry)) (now (out .entry)) (now (local .entry)) (now (remote .entry)) (now (mark .entry)) (now (turns .entry)) (now (number .entry)) (now (lane .entry)) (now (bit .entry)) nodes destination links tally) (now (kinds .entry)) (now (arguments .entry)) count) × Lists (stateAt (now (node .entry)) (now (live .entry)) (now (out .entry)) (now (local .entry)) (now (remote .entry)) (now (mark .entry)) (now (turns .entry)) (now (number .entry)) (now (lane .entry)) (now (bit .entry)) nodes destination links tally) (now (kinds .entry)) (now (arguments .entry)) count (now (answers .entry)) (now (packets .entry)) (now (ways .entry)) (now (answers .exit)) (now (packets .exit)) (now (ways .exit)) ⌝ }
+) -> Ran
+    requires { ⌜ (wellFormed (stateWith (now node) (now live) (now out) (now local) (now remote) (now mark) (now turns) nodes destination links (flown (now number) (now lane) (now bit) (tally .flying)) tally) ≡ true) × (length (flown (now number) (now lane) (now bit) (tally .flying)) ≡ tally .flying) × Whole (now live) (now out) (now local) (now remote) (now mark) (now turns) × Chained true links (now node) (now heads) (now next) × Roomy (now number) (now lane) (now bit) × Queued (now lane) (now first) (now last) (now after) (tally .flying) × (count ≤ length (now kinds)) × (count ≤ length (now arguments)) × (count ≤ length (now answers)) × (count ≤ length (now packets)) × (count ≤ length (now ways)) ⌝ }
+    ensures { λ r. ⌜ (stateWith (now (node .entry)) (now (live .exit)) (now (out .exit)) (now (local .exit)) (now (remote .exit)) (now (mark .exit)) (now (turns .exit)) nodes destination links (flown (now (number .exit)) (now (lane .exit)) (now (bit .exit)) (r .used)) (r .tally) ≡ calls (stateWith (now (node .entry)) (now (live .entry)) (now (out .entry)) (now (local .entry)) (now (remote .entry)) (now (mark .entry)) (now (turns .entry)) nodes destination links (flown (now (number .entry)) (now (lane .entry)) (now (bit .entry)) (tally .flying)) tally) (now (kinds .entry)) (now (arguments .entry)) count) × Lists (stateWith (now (node .entry)) (now (live .entry)) (now (out .entry)) (now (local .entry)) (now (remote .entry)) (now (mark .entry)) (now (turns .entry)) nodes destination links (flown (now (number .entry)) (now (lane .entry)) (now (bit .entry)) (tally .flying)) tally) (now (kinds .entry)) (now (arguments .entry)) count (now (answers .entry)) (now (packets .entry)) (now (ways .entry)) (now (answers .exit)) (now (packets .exit)) (now (ways .exit)) × (length (flown (now (number .exit)) (now (lane .exit)) (now (bit .exit)) (r .used)) ≡ r .tally .flying) × (r .used ≤ room) ⌝ }
 {
     let mut t = tally;
+    let mut used = tally.flying;
     let mut i: usize = 0;
     while i < count {
         let k = i;
         i += 1;
         let kind = kinds[k];
         let argument = index(arguments[k]);
+        used = room_for_one(number, lane, bit, first, last, after, used);
+        let asked = ask(number, lane, bit, first, used, kind, argument);
+        let told = asked.told;
         let r = step(
-            formed,
+            true,
             node,
             heads,
             next,
-            chained,
+            true,
             live,
             out,
             local,
             remote,
             mark,
             turns,
-            number,
-            lane,
-            bit,
             nodes,
             destination,
             links,
             t,
             kind,
             argument,
+            told,
         );
         t = r.tally;
+        let answer = r.answer;
+        let handled = r.handled;
+        let went = r.went;
+        used = carry(
+            number,
+            lane,
+            bit,
+            first,
+            last,
+            after,
+            local,
+            used,
+            kind,
+            argument,
+            asked,
+            answer,
+            handled,
+            went,
+        );
         note(answers, packets, ways, k, r);
     }
-    t
+    Ran { tally: t, used }
 }

@@ -5,10 +5,20 @@ mod record;
 
 use arrays::Tally;
 use arrays::formed;
+use burst::NOT_FORMED;
+use burst::refuse_all;
 use burst::run;
 use burst::shortest;
-use moves::threads;
+use flight::listed::ask;
+use flight::listed::carry;
+use model::Handled;
+use model::Went;
+use moves::thread;
 pub use opening::Opened;
+use queues::ROOM;
+use queues::gather;
+use queues::spread;
+use queues::thread_lanes;
 pub use record::Burst;
 pub use record::Moved;
 pub use record::Network;
@@ -89,19 +99,33 @@ impl Network {
             self.links,
             tally,
         );
+        if !sound {
+            return Moved {
+                network: self,
+                answer: NOT_FORMED,
+                handled: Handled::Nothing,
+                went: Went::Nowhere,
+            };
+        }
+        let asked = ask(
+            &self.number,
+            &self.lane,
+            &self.bit,
+            self.flying,
+            kind,
+            argument,
+        );
         let mut live = self.live;
         let mut out = self.out;
         let mut local = self.local;
         let mut remote = self.remote;
         let mut mark = self.mark;
         let mut turns = self.turns;
-        let mut number = self.number;
-        let mut lane = self.lane;
-        let mut bit = self.bit;
         // no chain is threaded for one event
         let heads = [0u16; model::NODES];
+        let told = asked.told;
         let r = step(
-            sound,
+            true,
             &self.node,
             &heads,
             &self.node,
@@ -112,17 +136,14 @@ impl Network {
             &mut remote,
             &mut mark,
             &mut turns,
-            &mut number,
-            &mut lane,
-            &mut bit,
             self.nodes,
             self.destination,
             self.links,
             tally,
             kind,
             argument,
+            told,
         );
-        let t = r.tally;
         let answer = r.answer;
         let handled = r.handled;
         let went = r.went;
@@ -134,6 +155,23 @@ impl Network {
                 went,
             };
         }
+        let t = r.tally;
+        let mut number = self.number;
+        let mut lane = self.lane;
+        let mut bit = self.bit;
+        let flying = carry(
+            &mut number,
+            &mut lane,
+            &mut bit,
+            &local,
+            self.flying,
+            kind,
+            argument,
+            asked,
+            answer,
+            handled,
+            went,
+        );
         Moved {
             network: Network {
                 node: self.node,
@@ -149,7 +187,7 @@ impl Network {
                 nodes: self.nodes,
                 destination: self.destination,
                 links: self.links,
-                flying: t.flying,
+                flying,
                 events: t.events,
                 admitted: t.admitted,
                 delivered: t.delivered,
@@ -201,8 +239,6 @@ impl Network {
     ) -> Burst
         ensures { λ r. ⌜ BurstPost self (now (kinds .entry)) (now (arguments .entry)) (now (answers .entry)) (now (packets .entry)) (now (ways .entry)) (now (answers .exit)) (now (packets .exit)) (now (ways .exit)) r ⌝ }
     {
-        let sound = self.well_formed();
-        let tally = self.tally();
         let count = shortest(
             kinds.len(),
             arguments.len(),
@@ -210,7 +246,15 @@ impl Network {
             packets.len(),
             ways.len(),
         );
-        let chains = threads(sound, &self.node, self.links);
+        if !self.well_formed() {
+            refuse_all(answers, packets, ways, count);
+            return Burst {
+                network: self,
+                count,
+            };
+        }
+        let tally = self.tally();
+        let chains = thread(&self.node, self.links);
         let heads = chains.heads;
         let next = chains.next;
         let mut live = self.live;
@@ -219,24 +263,38 @@ impl Network {
         let mut remote = self.remote;
         let mut mark = self.mark;
         let mut turns = self.turns;
-        let mut number = self.number;
-        let mut lane = self.lane;
-        let mut bit = self.bit;
-        let t = run(
-            sound,
+        let mut numbers = [0u32; ROOM];
+        let mut lanes = [0u16; ROOM];
+        let mut bits = [false; ROOM];
+        spread(
+            &self.number,
+            &self.lane,
+            &self.bit,
+            &mut numbers,
+            &mut lanes,
+            &mut bits,
+            self.flying,
+        );
+        let mut first = [ROOM as u16; model::ENDS];
+        let mut last = [0u16; model::ENDS];
+        let mut after = [0u16; ROOM];
+        thread_lanes(&lanes, self.flying, &mut first, &mut last, &mut after);
+        let ran = run(
             &self.node,
             &heads,
             &next,
-            sound,
             &mut live,
             &mut out,
             &mut local,
             &mut remote,
             &mut mark,
             &mut turns,
-            &mut number,
-            &mut lane,
-            &mut bit,
+            &mut numbers,
+            &mut lanes,
+            &mut bits,
+            &mut first,
+            &mut last,
+            &mut after,
             self.nodes,
             self.destination,
             self.links,
@@ -248,12 +306,19 @@ impl Network {
             ways,
             count,
         );
-        if !sound {
-            return Burst {
-                network: self,
-                count,
-            };
-        }
+        let t = ran.tally;
+        let mut number = self.number;
+        let mut lane = self.lane;
+        let mut bit = self.bit;
+        let flying = gather(
+            &numbers,
+            &lanes,
+            &bits,
+            &mut number,
+            &mut lane,
+            &mut bit,
+            ran.used,
+        );
         let network = Network {
             node: self.node,
             live,
@@ -268,7 +333,7 @@ impl Network {
             nodes: self.nodes,
             destination: self.destination,
             links: self.links,
-            flying: t.flying,
+            flying,
             events: t.events,
             admitted: t.admitted,
             delivered: t.delivered,

@@ -1,5 +1,6 @@
--- The ways through a call by kind, and what every call keeps. Assumes nothing.
-use Prim.Native.Nat.{ℕ, _≤_, _<_}
+-- The ways through a call by kind, what every call keeps, and that it names a lane. Assumes nothing.
+use Prim.Native.Nat.{ℕ, _*_, _≤_, _<_}
+use native.Mathlib.Omega.{arith}
 use mathlib.Core.Path.{_≡_, refl, sym, ap, _∙_}
 use mathlib.Core.Logic.{_⊎_, inl, inr}
 use mathlib.Core.Bool.{Bool, true, false, not, cond}
@@ -8,7 +9,8 @@ use lib.Dec.{leb, eqb}
 use borrow.Author.Tests.{le-leb, lt-leb, ne-eqb}
 use Rattle.model.specs.declared.Handled.{Handled}
 use Rattle.model.specs.declared.Went.{Went}
-use Rattle.model.specs.Limits.{eventsMost}
+use Rattle.model.specs.declared.Went.the-variants as went
+use Rattle.model.specs.Limits.{endsMost, eventsMost}
 use Rattle.model.specs.Answers as answers
 use Rattle.model.specs.State.{State}
 use Rattle.model.specs.Formed.{wellFormed}
@@ -21,8 +23,14 @@ use Rattle.model.specs.Fail.{failOf}
 use Rattle.model.specs.Events.{Event, send, deliver, lose, fail, event}
 use Rattle.model.specs.File.{ofKind}
 use Rattle.model.proofs.Below.{look}
+use Rattle.model.proofs.Numbers.{never}
+use Rattle.model.proofs.Named.{named}
 use Rattle.model.proofs.Promises.{formed-kept, refused-same}
 use Rattle.steps.specs.Call.{made, call}
+
+-- nowhere is no lane
+nowhere : {x : ℕ} → went.Nowhere ≡ went.Lane x → x < endsMost
+nowhere e = never cc
 
 module _ (s : State) (a : ℕ) where
   pub call-send : sendTo s a ≡ call s 1 a
@@ -118,3 +126,18 @@ module _ (s : State) where
         handled = e i .handled;
         went = e i .went;
       }
+
+  -- a packet that leaves does so by a lane of the record
+  pub call-lane : (kind a : ℕ) → wellFormed s ≡ true → (x : ℕ) → call s kind a .went ≡ went.Lane x → x < endsMost
+  unfolding call accepting
+  call-lane kind a h = at (ofKind kind)
+    where
+      bare : (x : ℕ) → accepting s (refuse s answers.noSuch) .went ≡ went.Lane x → x < endsMost
+      bare x e = elim (look (wellFormed s)) [
+        | inl w ↦ elim (look (leb eventsMost (s .counts .events))) [ inl m ↦ nowhere (rw (w, m) at e) | inr m ↦ nowhere (rw (w, m) at e) ]
+        | inr w ↦ nowhere (rw w at e)
+      ]
+
+      at : (m : Option (ℕ → Event)) → (x : ℕ) → made s m a .went ≡ went.Lane x → x < endsMost
+      at none x e = bare x e
+      at (some make) x e = let r = named .one s (make a) h in omega (arith, r .lane x e, r .few-lanes)

@@ -1,8 +1,9 @@
-pub mod Ways
 pub mod Tallies
-pub mod Sounds
+pub mod Ways
 pub mod Sends
-pub mod OffLanes
 pub mod Cuts
-pub mod Deliveries
 pub mod Calls
+pub mod Tellings
+pub mod OffLanes
+pub mod Deliveries
+pub mod Sounds

@@ -1,31 +1,33 @@
--- The oldest packet of a lane: the refusals, and what it is to have taken it. Assumes nothing.
-use Prim.Native.Nat.{ℕ, suc, _+_, _-_, _*_, _/_, _≤_, _<_}
+-- The oldest packet of a lane: the refusals, what the packets tell of it, and what it is to have taken it. Assumes nothing.
+use Prim.Native.Nat.{ℕ, _+_, _*_, _/_, _≤_, _<_}
 use native.Mathlib.Omega.{arith}
-use mathlib.Core.Path.{_≡_, refl, sym, ap, _∙_}
-use mathlib.Core.Bool.{Bool, true, false, not}
+use mathlib.Core.Path.{_≡_, refl, ap, _∙_}
+use mathlib.Core.Bool.{Bool, true, false}
 use mathlib.Core.Logic.{inl, inr}
-use mathlib.Core.List.{List, []}
-use lib.Dec.{leb, eqb}
-use lib.ListN.{length, getD}
-use borrow.Author.Tests.{le-leb, lt-leb, leb-true, leb-false}
+use mathlib.Core.List.{List, [], _∷_}
+use lib.Dec.{leb}
+use lib.ListN.{length, getD, length-append}
+use borrow.Author.Tests.{le-leb, lt-leb, leb-true, leb-false, ne-eqb}
+use Rattle.model.specs.declared.Handled.the-variants as handled
+use Rattle.model.specs.declared.Went.{Went}
 use Rattle.model.specs.declared.Went.the-variants as went
 use Rattle.model.specs.Limits.{eventsMost}
 use Rattle.model.specs.Answers as answers
-use Rattle.model.specs.Below.{first}
 use Rattle.model.specs.State.{State, Packet, Net, Ends, Counts, lanes, live, whole}
 use Rattle.model.specs.Formed.{wellFormed}
-use Rattle.model.specs.Outcome.{Outcome, refuse, accepting}
-use Rattle.model.specs.Lanes.{onLane, less, taken, withOldest, offLane}
-use Rattle.model.proofs.Below.{look}
+use Rattle.model.specs.Outcome.{Outcome, refuse, accepting, gives}
+use Rattle.model.specs.Lanes.{onLane, less, taken, offLane}
+use Rattle.model.proofs.Below.{look, clash}
 use Rattle.model.proofs.Ends.{live-whole}
-use Rattle.arrays.specs.View.{used, netOf, stateOf, packetAt}
-use Rattle.arrays.specs.Flight.{Slots, packets}
+use Rattle.model.proofs.Lanes.{less-length}
+use Rattle.arrays.specs.declared.Tally.{Tally}
+use Rattle.arrays.specs.declared.Told.{Told}
+use Rattle.arrays.specs.View.{used, netOf, stateOf}
+use Rattle.arrays.specs.Told.{oldestIn, without, passedBy, passed}
 use Rattle.arrays.proofs.Below.{used-in}
-use Rattle.moves.specs.Moves.{Removed}
-use Rattle.moves.proofs.Searches.{first-most}
-use Rattle.steps.specs.declared.lanes.Found.{Found}
-use Rattle.steps.specs.Lanes.{nowhere, oldestAt, found}
-use Rattle.moves.proofs.Packets.{lane-empty, lane-oldest, taken-out}
+use Rattle.steps.specs.declared.tally.Step.{Step}
+use Rattle.steps.specs.Lanes.{refused}
+use Rattle.steps.specs.Steps.{stateWith, outcomeOf}
 
 module _ (s : State) (x : ℕ) (f : Packet → Outcome) (formed : wellFormed s ≡ true) (room : s .counts .events < eventsMost) where
   pub off-no-such : lanes s ≤ x → refuse s answers.noSuch ≡ offLane s x f
@@ -42,120 +44,145 @@ module _ (s : State) (x : ℕ) (f : Packet → Outcome) (formed : wellFormed s �
       unfolding offLane accepting
       off-empty e = rw (formed, lt-leb eventsMost (s .counts .events) room, lt-leb (lanes s) x inside, live-whole s x up, e)
 
-      pub off-oldest : {o : Outcome} → withOldest s (onLane x (s .flight)) f ≡ o → o ≡ offLane s x f
+      pub off-oldest : {p : Packet} {ps : List Packet} → onLane x (s .flight) ≡ p ∷ ps → f p ≡ offLane s x f
       unfolding offLane accepting
       off-oldest e = rw (formed, lt-leb eventsMost (s .counts .events) room, lt-leb (lanes s) x inside, live-whole s x up, e)
 
--- a state whose flight has lost the oldest packet of the lane
-pub took-is : (net : Net) (live : List Bool) (ends : Ends) (turns : List ℕ) (flight flight′ : List Packet) (counts : Counts) (x : ℕ)
-    → flight′ ≡ less x flight → stateOf net live ends turns flight′ counts ≡ taken (stateOf net live ends turns flight counts) x
-unfolding taken
-took-is net live ends turns flight flight′ counts x e = rw e
+-- ---- what the packets of a lane tell
+pub told-none : (ps : List Packet) {t : Told} → t ≡ oldestIn ps → t .there ≡ false → ps ≡ []
+told-none [] e h = refl
+told-none (p ∷ ps) e h = absurd (clash (ap (λ (t : Told). t .there) e) h)
 
--- the same, from the arrays
-module _ (number lane : List ℕ) (bit : List Bool) (x i flying : ℕ) (e : i ≡ first (λ j. eqb (getD lane j 0) x) 0 flying) where
-  pub none-there : flying ≤ i → onLane x (packets number lane bit flying) ≡ []
-  none-there h = lane-empty x (packetAt number lane bit) flying (omega (arith, e, most))
-    where
-      most : first (λ j. eqb (getD lane j 0) x) 0 flying ≤ 0 + flying
-      most = first-most (λ j. eqb (getD lane j 0) x) flying 0
+pub record Oldest (ps : List Packet) (t : Told) : Type 0 where
+  pub packet : Packet
+  pub rest : List Packet
+  pub first : ps ≡ packet ∷ rest
+  pub number : t .number ≡ packet .number
+  pub bit : t .bit ≡ packet .bit
 
-  module _ (h : i < flying) where
-    pub oldest-there : (s : State) (f : Packet → Outcome) → withOldest s (onLane x (packets number lane bit flying)) f ≡ f (packetAt number lane bit i)
-    oldest-there s f = lane-oldest x (packetAt number lane bit) flying (omega (arith, e)) s f ∙ ap (λ j. f (packetAt number lane bit j)) (sym e)
+pub told-oldest : (ps : List Packet) {t : Told} → t ≡ oldestIn ps → t .there ≡ true → Oldest ps t
+told-oldest [] e h = absurd (clash h (ap (λ (t : Told). t .there) e))
+told-oldest (p ∷ ps) e h =
+    record { packet = p; rest = ps; first = refl; number = ap (λ (t : Told). t .number) e; bit = ap (λ (t : Told). t .bit) e }
 
-    pub rest-there : (number′ lane′ : List ℕ) (bit′ : List Bool) (last : ℕ) → last + 1 ≡ flying
-        → Removed 0 i last number number′ × Removed 0 i last lane lane′ × Removed false i last bit bit′
-        → packets number′ lane′ bit′ last ≡ less x (packets number lane bit flying)
-    rest-there number′ lane′ bit′ last q r =
-        let z : suc last ≡ flying = omega arith in
-        rw (← z) (taken-out number lane bit number′ lane′ bit′ x i last (rw z e) (omega arith) (r .0) (r .1) (r .2))
-
--- ---- what a search of the lane found
-module _ (live : List Bool) (lane : List ℕ) (links flying x : ℕ) where
-  pub record There (r : Found) : Type 0 where
+-- ---- the refusals
+module _ (live : List Bool) (links x : ℕ) (there : Bool) where
+  pub record There : Type 0 where
     pub inside : x < 2 * links
     pub up : getD live (x / 2) false ≡ true
-    pub at : r .at ≡ oldestAt lane flying x
-    pub within : r .at < flying
+    pub one : there ≡ true
 
-  pub found-none : 2 * links ≤ x → found live lane links flying x ≡ nowhere answers.noSuch
-  unfolding found
-  found-none h = rw (le-leb (2 * links) x h)
+  pub refused-none : 2 * links ≤ x → refused live links x there ≡ answers.noSuch
+  unfolding refused
+  refused-none h = rw (le-leb (2 * links) x h)
 
   module _ (inside : x < 2 * links) where
-    pub found-down : getD live (x / 2) false ≡ false → found live lane links flying x ≡ nowhere answers.linkDown
-    unfolding found
-    found-down e = rw (lt-leb (2 * links) x inside, e)
+    pub refused-down : getD live (x / 2) false ≡ false → refused live links x there ≡ answers.linkDown
+    unfolding refused
+    refused-down e = rw (lt-leb (2 * links) x inside, e)
 
     module _ (up : getD live (x / 2) false ≡ true) where
-      pub found-empty : flying ≤ oldestAt lane flying x → found live lane links flying x ≡ nowhere answers.laneEmpty
-      unfolding found
-      found-empty h = rw (lt-leb (2 * links) x inside, up, le-leb flying (oldestAt lane flying x) h)
+      pub refused-empty : there ≡ false → refused live links x there ≡ answers.laneEmpty
+      unfolding refused
+      refused-empty e = rw (lt-leb (2 * links) x inside, up, e)
 
-      pub found-there : oldestAt lane flying x < flying
-          → found live lane links flying x ≡ record { answer = answers.done; at = oldestAt lane flying x }
-      unfolding found
-      found-there h = rw (lt-leb (2 * links) x inside, up, lt-leb flying (oldestAt lane flying x) h)
+      pub refused-not : there ≡ true → refused live links x there ≡ answers.done
+      unfolding refused
+      refused-not e = rw (lt-leb (2 * links) x inside, up, e)
 
-  module _ (r : Found) (e : r ≡ found live lane links flying x) where
-    answered : (q : Found) → found live lane links flying x ≡ q → r .answer ≡ q .answer
-    answered q f = ap (λ (z : Found). z .answer) (e ∙ f)
+  pub is-there : {answer : ℕ} → answer ≡ refused live links x there → answer ≡ answers.done → There
+  is-there e z = elim (look (leb (2 * links) x)) [
+    | inl h ↦ absurd (omega (arith, z, e ∙ refused-none (leb-true (2 * links) x h)))
+    | inr h ↦ let inside = leb-false (2 * links) x h in elim (look (getD live (x / 2) false)) [
+      | inl u ↦ elim (look there) [
+        | inl o ↦ record { inside = inside; up = u; one = o }
+        | inr o ↦ absurd (omega (arith, z, e ∙ refused-empty inside u o))
+      ]
+      | inr d ↦ absurd (omega (arith, z, e ∙ refused-down inside d))
+    ]
+  ]
 
-    pub there : r .answer ≡ answers.done → There r
-    there z = elim (look (leb (2 * links) x)) [
-      | inl h ↦ absurd (omega (arith, z, answered _ (found-none (leb-true (2 * links) x h))))
+module _ (live : List Bool) (links x : ℕ) (told : Told) (node : List ℕ) (ends : Ends) (turns : List ℕ) (nodes destination : ℕ) (flight : List Packet) (counts : Counts) where
+  abbrev shown : State
+  shown = stateOf (netOf nodes destination links node) live ends turns flight counts
+
+  module _ (t : told ≡ oldestIn (onLane x flight)) (formed : wellFormed shown ≡ true) (room : counts .events < eventsMost) (f : Packet → Outcome) where
+    is-live : (b : Bool) → x < 2 * links → getD live (x / 2) false ≡ b → used links false live (x / 2) ≡ b
+    is-live b h u = used-in links false live (x / 2) (omega arith) ∙ u
+
+    pub off-refused : {answer : ℕ} → answer ≡ refused live links x (told .there) → (answer ≡ answers.done → ⊥) → refuse shown answer ≡ offLane shown x f
+    off-refused e z = elim (look (leb (2 * links) x)) [
+      | inl h ↦
+          let none = leb-true (2 * links) x h in
+          ap (refuse shown) (e ∙ refused-none live links x (told .there) none) ∙ off-no-such shown x f formed room none
       | inr h ↦ let inside = leb-false (2 * links) x h in elim (look (getD live (x / 2) false)) [
-        | inl u ↦ elim (look (leb flying (oldestAt lane flying x))) [
-          | inl m ↦ absurd (omega (arith, z, answered _ (found-empty inside u (leb-true flying (oldestAt lane flying x) m))))
-          | inr m ↦
-              let short = leb-false flying (oldestAt lane flying x) m in
-              let at = ap (λ (z : Found). z .at) (e ∙ found-there inside u short) in
-              record { inside = inside; up = u; at = at; within = omega (arith, at, short) }
+        | inl u ↦ elim (look (told .there)) [
+          | inl o ↦ absurd (z (e ∙ refused-not live links x (told .there) inside u o))
+          | inr o ↦
+              ap (refuse shown) (e ∙ refused-empty live links x (told .there) inside u o)
+              ∙ off-empty shown x f formed room inside (is-live true inside u) (told-none (onLane x flight) t o)
         ]
-        | inr d ↦ absurd (omega (arith, z, answered _ (found-down inside d)))
+        | inr d ↦
+            ap (refuse shown) (e ∙ refused-down live links x (told .there) inside d)
+            ∙ off-down shown x f formed room inside (is-live false inside d)
       ]
     ]
 
-    module _ (node : List ℕ) (ends : Ends) (turns number : List ℕ) (bit : List Bool) (nodes destination : ℕ) (counts : Counts) where
-      abbrev shown : State
-      shown = stateOf (netOf nodes destination links node) live ends turns (packets number lane bit flying) counts
+    pub off-found : There live links x (told .there) → {p : Packet} {ps : List Packet} → onLane x flight ≡ p ∷ ps → f p ≡ offLane shown x f
+    off-found h e = off-oldest shown x f formed room (h .inside) (is-live true (h .inside) (h .up)) e
 
-      module _ (formed : wellFormed shown ≡ true) (room : counts .events < eventsMost) (f : Packet → Outcome) where
-        is-live : (b : Bool) → x < 2 * links → getD live (x / 2) false ≡ b → used links false live (x / 2) ≡ b
-        is-live b h u = used-in links false live (x / 2) (omega arith) ∙ u
+-- a state whose flight has lost the oldest packet of the lane
+pub took-is : (net : Net) (live : List Bool) (ends : Ends) (turns : List ℕ) (flight : List Packet) (counts : Counts) (x : ℕ)
+    → stateOf net live ends turns (less x flight) counts ≡ taken (stateOf net live ends turns flight counts) x
+unfolding taken
+took-is net live ends turns flight counts x = refl
 
-        refused-with : (q : Found) → found live lane links flying x ≡ q → refuse shown (q .answer) ≡ offLane shown x f
-            → refuse shown (r .answer) ≡ offLane shown x f
-        refused-with q g h = ap (refuse shown) (answered q g) ∙ h
+-- ---- what an answer takes from the packets
+module _ (x : ℕ) (flight : List Packet) {answer : ℕ} where
+  pub without-oldest : answer ≡ answers.done → without answer x flight ≡ less x flight
+  without-oldest h = rw h
 
-        pub off-refused : (r .answer ≡ answers.done → ⊥) → refuse shown (r .answer) ≡ offLane shown x f
-        off-refused z = elim (look (leb (2 * links) x)) [
-          | inl h ↦
-              let none = leb-true (2 * links) x h in
-              refused-with _ (found-none none) (off-no-such shown x f formed room none)
-          | inr h ↦ let inside = leb-false (2 * links) x h in elim (look (getD live (x / 2) false)) [
-            | inl u ↦ elim (look (leb flying (oldestAt lane flying x))) [
-              | inl m ↦
-                  let past = leb-true flying (oldestAt lane flying x) m in
-                  refused-with _ (found-empty inside u past)
-                  (off-empty shown x f formed room inside (is-live true inside u) (none-there number lane bit x _ flying refl past))
-              | inr m ↦ absurd (z (answered _ (found-there inside u (leb-false flying (oldestAt lane flying x) m))))
-            ]
-            | inr d ↦ refused-with _ (found-down inside d) (off-down shown x f formed room inside (is-live false inside d))
-          ]
-        ]
+module _ (node : List ℕ) (live out local remote mark : List Bool) (turns : List ℕ) (nodes destination links : ℕ) (flight : List Packet) (x : ℕ) {r : Step} {t : Tally} where
+  pub bare-keeps : {answer : ℕ} → r ≡ record { tally = t; answer = answer; handled = handled.Nothing; went = went.Nowhere } → (answer ≡ answers.done → ⊥)
+      → outcomeOf (stateWith node live out local remote mark turns nodes destination links (passed local (without (r .answer) x flight) (r .handled) (r .went)) (r .tally)) r
+      ≡ refuse (stateWith node live out local remote mark turns nodes destination links flight t) answer
+  bare-keeps {answer} q h = rw (q, ne-eqb answer answers.done h)
 
-        pub off-found : There r → f (packetAt number lane bit (r .at)) ≡ offLane shown x f
-        off-found t =
-            off-oldest shown x f formed room (t .inside) (is-live true (t .inside) (t .up))
-            (oldest-there number lane bit x (r .at) flying (t .at) (t .within) shown f)
+  pub done-takes : {n : ℕ} → r ≡ record { tally = t; answer = 0; handled = handled.Packet n; went = went.Lost }
+      → outcomeOf (stateWith node live out local remote mark turns nodes destination links (passed local (without (r .answer) x flight) (r .handled) (r .went)) (r .tally)) r
+      ≡ gives (stateWith node live out local remote mark turns nodes destination links (less x flight) t) n went.Lost
+  done-takes q = rw q
 
-pub slots-kept : {number number′ lane lane′ : List ℕ} {bit bit′ : List Bool} {i last : ℕ} → Slots number lane bit
-    → Removed 0 i last number number′ × Removed 0 i last lane lane′ × Removed false i last bit bit′ → Slots number′ lane′ bit′
-slots-kept s r =
-    record {
-      number-long = r .0 .long ∙ s .number-long;
-      lane-long = r .1 .long ∙ s .lane-long;
-      bit-long = r .2 .long ∙ s .bit-long;
-    }
+-- ---- how many they are after it
+module _ (local : List Bool) (flight : List Packet) {r : Step} {t : Tally} where
+  pub bare-long : (x : ℕ) {answer : ℕ} → r ≡ record { tally = t; answer = answer; handled = handled.Nothing; went = went.Nowhere } → (answer ≡ answers.done → ⊥)
+      → length flight ≡ t .flying → length (passed local (without (r .answer) x flight) (r .handled) (r .went)) ≡ r .tally .flying
+  bare-long x {answer} q h l = rw (q, ne-eqb answer answers.done h) l
+
+  pub lost-long : (x : ℕ) {n : ℕ} {p : Packet} {ps : List Packet} → r ≡ record { tally = t; answer = 0; handled = handled.Packet n; went = went.Lost }
+      → onLane x flight ≡ p ∷ ps → length flight ≡ t .flying + 1 → length (passed local (without (r .answer) x flight) (r .handled) (r .went)) ≡ r .tally .flying
+  lost-long x q e l =
+      let d : length flight ≡ length (less x flight) + 1 = less-length x flight e in
+      let h : length (less x flight) ≡ t .flying = omega (arith, d, l) in
+      rw q h
+
+  pub stays-long : {n : ℕ} {w : Went} → r ≡ record { tally = t; answer = 0; handled = handled.Packet n; went = w } → passedBy local flight n w ≡ flight
+      → length flight ≡ t .flying → length (passed local flight (r .handled) (r .went)) ≡ r .tally .flying
+  stays-long q s l = rw (q, s) l
+
+  pub leaves-long : {n x : ℕ} → r ≡ record { tally = t; answer = 0; handled = handled.Packet n; went = went.Lane x }
+      → length flight + 1 ≡ t .flying → length (passed local flight (r .handled) (r .went)) ≡ r .tally .flying
+  leaves-long q l = rw q (length-append flight _ ∙ l)
+
+-- an accepted event has taken the oldest packet
+module _ (local : List Bool) (flight : List Packet) (x : ℕ) (r : Step) (h : r .answer ≡ answers.done) where
+  pub took-gives : (node : List ℕ) (live out remote mark : List Bool) (turns : List ℕ) (nodes destination links : ℕ) {o : Outcome}
+      → outcomeOf (stateWith node live out local remote mark turns nodes destination links (passed local (less x flight) (r .handled) (r .went)) (r .tally)) r ≡ o
+      → outcomeOf (stateWith node live out local remote mark turns nodes destination links (passed local (without (r .answer) x flight) (r .handled) (r .went)) (r .tally)) r ≡ o
+  took-gives node live out remote mark turns nodes destination links e =
+      ap (λ left. outcomeOf (stateWith node live out local remote mark turns nodes destination links (passed local left (r .handled) (r .went)) (r .tally)) r) (without-oldest x flight h)
+      ∙ e
+
+  pub took-long : {k : ℕ} → length (passed local (less x flight) (r .handled) (r .went)) ≡ k
+      → length (passed local (without (r .answer) x flight) (r .handled) (r .went)) ≡ k
+  took-long e = ap (λ left. length (passed local left (r .handled) (r .went))) (without-oldest x flight h) ∙ e

@@ -13,11 +13,11 @@ use Rattle.model.specs.State.{State, Net, Packet, Counts, end, linkOf, whole}
 use Rattle.model.specs.Formed.{sized, joins, wellFormed}
 use Rattle.model.proofs.Below.{and-both}
 use Rattle.model.proofs.Ends.{which-end}
-use Rattle.model.proofs.Formed.{Formed, formed-if, if-formed}
+use Rattle.model.proofs.Formed.{Formed, formed-if}
 use Rattle.arrays.specs.declared.Tally.{Tally}
-use Rattle.arrays.specs.View.{used, packetAt}
-use Rattle.arrays.proofs.Below.{length-tab, used-in}
-use Rattle.steps.specs.Steps.{stateAt, MarksLive, Fair}
+use Rattle.arrays.specs.View.{used}
+use Rattle.arrays.proofs.Below.{used-in}
+use Rattle.steps.specs.Steps.{stateWith, MarksLive, Fair, Sound}
 
 pub record Sizes (nodes destination links : ℕ) : Type 0 where
   pub nodes-most : nodes ≤ nodesMost
@@ -38,46 +38,21 @@ two n a b e =
     let q = and-both (ltb a n) (ltb b n) (p .0) in
     (ltb-true a n (q .0), ltb-true b n (q .1))
 
--- remote bits are not looked at
-pub remote-free : (net : Net) (up out local remote remote′ mark : ℕ → Bool) (turns : ℕ → ℕ) (flight : List Packet) (counts : Counts)
-    → wellFormed (record { net = net; up = up; ends = record { out = out; local = local; remote = remote; mark = mark }; turns = turns; flight = flight; counts = counts }) ≡ true
-    → wellFormed (record { net = net; up = up; ends = record { out = out; local = local; remote = remote′; mark = mark }; turns = turns; flight = flight; counts = counts }) ≡ true
-unfolding whole
-remote-free net up out local remote remote′ mark turns flight counts e =
-    let f = formed-if (record { net = net; up = up; ends = record { out = out; local = local; remote = remote; mark = mark }; turns = turns; flight = flight; counts = counts }) e in
-    if-formed _ {k = 0}
-    (record {
-      net = f .net;
-      within = f .within;
-      room = f .room;
-      marked = f .marked;
-      flies = f .flies;
-      turned = f .turned;
-      fewer = f .fewer;
-      sum = f .sum;
-    })
-
-module _ (node : List ℕ) (live out local remote mark : List Bool) (turns number lane : List ℕ) (bit : List Bool) (nodes destination links : ℕ) (t : Tally) where
-  pub record Sound : Type 0 where
-    pub sizes : Sizes nodes destination links
-    pub flying : t .flying ≤ flightMost
-    pub fair : t .events < eventsMost → Fair t
-    pub named : (x : ℕ) → x < 2 * links → getD node x 0 < nodes
-    pub marks : MarksLive links live mark
-    pub turned : (v : ℕ) → v < nodes → getD turns v 0 ≤ t .events
-
+module _ (node : List ℕ) (live out local remote mark : List Bool) (turns : List ℕ) (nodes destination links : ℕ) (flight : List Packet) (t : Tally) where
   node-of : (l e : ℕ) → l < links → e < 2 → (b : ℕ) → used (2 * links) 0 node (2 * l + e) < b → getD node (2 * l + e) 0 < b
   node-of l e h k b p = subst (λ m. m < b) (used-in (2 * links) 0 node (2 * l + e) (omega arith)) p
 
-  pub sound-if : wellFormed (stateAt node live out local remote mark turns number lane bit nodes destination links t) ≡ true → Sound
-  sound-if e =
-      let s : State = stateAt node live out local remote mark turns number lane bit nodes destination links t in
+  pub sound-if : length flight ≡ t .flying → wellFormed (stateWith node live out local remote mark turns nodes destination links flight t) ≡ true
+      → Sound node live mark turns nodes destination links t
+  sound-if many e =
+      let s : State = stateWith node live out local remote mark turns nodes destination links flight t in
       let f = formed-if s e in
       let z = sizes-are nodes destination links (f .net .sizes) in
-      let many = length-tab (packetAt number lane bit) (t .flying) in
       record {
-        sizes = z;
-        flying = omega (arith, f .room);
+        nodes-most = z .nodes-most;
+        a-node = z .a-node;
+        links-most = z .links-most;
+        flying = omega (arith, f .room, many);
         fair = λ h. record {
           events = h;
           admitted = omega (arith, f .fewer);
@@ -94,3 +69,7 @@ module _ (node : List ℕ) (live out local remote mark : List Bool) (turns numbe
           → (x : ℕ) → x < 2 * links → (x ≡ end (linkOf x) 0) ⊎ (x ≡ end (linkOf x) 1) → getD node x 0 < nodes
       named j x h (inl q) = subst (λ m. getD node m 0 < nodes) (sym q) (node-of (linkOf x) 0 (omega arith) (omega arith) nodes (two nodes _ _ (j (linkOf x) (omega arith)) .0))
       named j x h (inr q) = subst (λ m. getD node m 0 < nodes) (sym q) (node-of (linkOf x) 1 (omega arith) (omega arith) nodes (two nodes _ _ (j (linkOf x) (omega arith)) .1))
+
+-- no more packets are in flight than may be
+pub few-fly : (s : State) → wellFormed s ≡ true → length (s .flight) ≤ flightMost
+few-fly s e = omega (arith, formed-if s e .room)

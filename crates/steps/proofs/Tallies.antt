@@ -1,35 +1,63 @@
 -- What a step's answer and counts make of a state. Assumes nothing.
-use Prim.Native.Nat.{ℕ}
-use mathlib.Core.Path.{_≡_, refl}
-use mathlib.Core.Bool.{Bool}
+use Prim.Native.Nat.{ℕ, _+_, _*_, _<_}
+use native.Mathlib.Omega.{arith}
+use mathlib.Core.Path.{_≡_, refl, sym, ap, _∙_}
+use mathlib.Core.Bool.{Bool, false}
 use mathlib.Core.List.{List}
+use lib.ListN.{length, length-append}
+use Rattle.model.specs.declared.Handled.{Handled}
 use Rattle.model.specs.declared.Handled.the-variants as handled
 use Rattle.model.specs.declared.Went.{Went}
 use Rattle.model.specs.declared.Went.the-variants as went
-use Rattle.model.specs.Outcome.{counted, gives}
+use Rattle.model.specs.State.{Packet}
+use Rattle.model.specs.Departure.{pass}
+use Rattle.model.specs.Outcome.{Outcome, counted, gives, leaves}
 use Rattle.arrays.specs.declared.Tally.{Tally}
+use Rattle.arrays.specs.View.{used}
+use Rattle.arrays.specs.Told.{passedBy, passed}
+use Rattle.arrays.proofs.Below.{used-in}
 use Rattle.steps.specs.declared.tally.Step.{Step}
-use Rattle.arrays.specs.View.{netOf, endsOf, countsOf, stateOf}
-use Rattle.arrays.specs.Flight.{packets}
-use Rattle.steps.specs.Steps.{stateAt, outcomeOf, tallied}
+use Rattle.steps.specs.Steps.{stateWith, outcomeOf, tallied}
 
-module _ (node : List ℕ) (live out local remote mark : List Bool) (turns number lane : List ℕ) (bit : List Bool) (nodes destination links : ℕ) (t : Tally) (r : Step) (t′ : Tally)
-    (k admitted delivered lost stranded : ℕ) (e : t′ ≡ tallied t k admitted delivered lost stranded) where
-  -- a packet was handled
-  pub done-is : (n : ℕ) (w : Went) → r ≡ record { tally = t′; answer = 0; handled = handled.Packet n; went = w }
-      → outcomeOf (stateAt node live out local remote mark turns number lane bit nodes destination links (r .tally)) r
-      ≡ gives (counted (stateOf (netOf nodes destination links node) live (endsOf links out local remote mark) turns (packets number lane bit k) (countsOf t)) admitted delivered lost stranded) n w
+module _ (node : List ℕ) (live out local remote mark : List Bool) (turns : List ℕ) (nodes destination links : ℕ) (flight : List Packet) where
+  -- counted, the packets in flight apart
+  pub counted-is : (t : Tally) {t′ : Tally} (k admitted delivered lost stranded : ℕ) → t′ ≡ tallied t k admitted delivered lost stranded
+      → stateWith node live out local remote mark turns nodes destination links flight t′
+      ≡ counted (stateWith node live out local remote mark turns nodes destination links flight t) admitted delivered lost stranded
   unfolding counted
-  done-is n w q = rw (q, e)
+  counted-is t k admitted delivered lost stranded e = rw e
 
-  -- none was
-  pub bare-is : r ≡ record { tally = t′; answer = 0; handled = handled.Nothing; went = went.Nowhere }
-      → outcomeOf (stateAt node live out local remote mark turns number lane bit nodes destination links (r .tally)) r
-      ≡ record {
-        state = counted (stateOf (netOf nodes destination links node) live (endsOf links out local remote mark) turns (packets number lane bit k) (countsOf t)) admitted delivered lost stranded;
-        answer = 0;
-        handled = handled.Nothing;
-        went = went.Nowhere;
-      }
-  unfolding counted
-  bare-is q = rw (q, e)
+  module _ {r : Step} {t : Tally} where
+    -- a packet was handled, and is in flight no more
+    pub done-stays : {n : ℕ} {w : Went} → r ≡ record { tally = t; answer = 0; handled = handled.Packet n; went = w } → passedBy local flight n w ≡ flight
+        → outcomeOf (stateWith node live out local remote mark turns nodes destination links (passed local flight (r .handled) (r .went)) (r .tally)) r
+        ≡ gives (stateWith node live out local remote mark turns nodes destination links flight t) n w
+    done-stays q s = rw (q, s)
+
+    -- it left by end x
+    pub done-leaves : {n x : ℕ} → r ≡ record { tally = t; answer = 0; handled = handled.Packet n; went = went.Lane x } → x < 2 * links
+        → outcomeOf (stateWith node live out local remote mark turns nodes destination links (passed local flight (r .handled) (r .went)) (r .tally)) r
+        ≡ leaves (stateWith node live out local remote mark turns nodes destination links flight t) x n
+    unfolding pass
+    done-leaves {x = x} q h = rw (q, used-in (2 * links) false local x h)
+
+    -- none was
+    pub bare-stays : {answer : ℕ} → r ≡ record { tally = t; answer = answer; handled = handled.Nothing; went = went.Nowhere }
+        → outcomeOf (stateWith node live out local remote mark turns nodes destination links (passed local flight (r .handled) (r .went)) (r .tally)) r
+        ≡ record {
+          state = stateWith node live out local remote mark turns nodes destination links flight t;
+          answer = answer;
+          handled = handled.Nothing;
+          went = went.Nowhere;
+        }
+    bare-stays q = rw q
+
+-- ---- how many are in flight after it
+module _ (local : List Bool) (flight : List Packet) {r : Step} {t : Tally} {answer : ℕ} where
+  pub stays-long : {h : Handled} {w : Went} → r ≡ record { tally = t; answer = answer; handled = h; went = w } → passed local flight h w ≡ flight
+      → length flight ≡ t .flying → length (passed local flight (r .handled) (r .went)) ≡ r .tally .flying
+  stays-long q s e = rw (q, s) e
+
+  pub leaves-long : {n x : ℕ} → r ≡ record { tally = t; answer = answer; handled = handled.Packet n; went = went.Lane x }
+      → t .flying ≡ length flight + 1 → length (passed local flight (r .handled) (r .went)) ≡ r .tally .flying
+  leaves-long q e = rw q (length-append flight _ ∙ sym e)

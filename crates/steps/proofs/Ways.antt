@@ -21,9 +21,8 @@ use Rattle.model.proofs.Below.{look, clash, any-here, any-found, any-false}
 use Rattle.arrays.specs.declared.Tally.{Tally}
 use Rattle.arrays.specs.View.{used, netOf, endsOf, countsOf, stateOf, endsSeen}
 use Rattle.moves.specs.Turned.{Turned}
-use Rattle.arrays.specs.Flight.{packets}
 use Rattle.arrays.proofs.Below.{used-in, used-is, used-out}
-use Rattle.steps.specs.Steps.{stateAt}
+use Rattle.steps.specs.Steps.{stateWith}
 use Rattle.moves.proofs.Searches.{first-most, first-by-links}
 use Rattle.moves.proofs.Chains.{first-hit}
 
@@ -66,13 +65,6 @@ module _ (s : State) (v : ℕ) where
     | inr e ↦ absurd (omega (arith, rw e at by-links))
   ]
 
--- ---- a packet leaves
-pub leave-is : (net : Net) (live : List Bool) (ends : Ends) (turns : List ℕ) (flight flight′ : List Packet) (counts : Counts) (x n : ℕ) (b : Bool)
-    → ends .local x ≡ b → flight′ ≡ flight ++ (record { number = n; lane = x; bit = b } ∷ [])
-    → gives (stateOf net live ends turns flight′ counts) n (went.Lane x) ≡ leaves (stateOf net live ends turns flight counts) x n
-unfolding pass
-leave-is net live ends turns flight flight′ counts x n b e q = rw (e, q)
-
 -- by the way out that was found
 pub leaves-by : {s t : State} (v x n : ℕ) → s ≡ t → hasOut s v ≡ true → x ≡ first (outAt s v) 0 (lanes s) → leaves s x n ≡ leavesBy t v n
 leaves-by {s} v x n e o q = ap (λ y. leaves s y n) (q ∙ way-door s v (way-in s v o)) ∙ ap (λ r. leavesBy r v n) e
@@ -81,20 +73,20 @@ leaves-by {s} v x n e o q = ap (λ y. leaves s y n) (q ∙ way-door s v (way-in 
 pub turns-kept : (turns turns′ : List ℕ) (v t n : ℕ) → turns′ ≡ set turns v t → length turns ≡ n → length turns′ ≡ n
 turns-kept turns turns′ v t n e h = ap length e ∙ length-set turns v t ∙ h
 
-pub turn-is : (node : List ℕ) (live out local remote mark : List Bool) (turns number lane : List ℕ) (bit : List Bool) (nodes destination links : ℕ) (t : Tally) (v : ℕ)
+pub turn-is : (node : List ℕ) (live out local remote mark : List Bool) (turns : List ℕ) (nodes destination links : ℕ) (flight : List Packet) (t : Tally) (v : ℕ)
     {out′ local′ mark′ : List Bool} {turns′ : List ℕ} → Turned (endsSeen links node live out local mark) v out′ local′ mark′
     → turns′ ≡ set turns v (getD turns v 0 + 1) → v < nodes → nodes ≤ length turns
-    → stateAt node live out′ local′ remote mark′ turns′ number lane bit nodes destination links t
-    ≡ turn (stateAt node live out local remote mark turns number lane bit nodes destination links t) v
+    → stateWith node live out′ local′ remote mark′ turns′ nodes destination links flight t
+    ≡ turn (stateWith node live out local remote mark turns nodes destination links flight t) v
 unfolding turn hasMark
-turn-is node live out local remote mark turns number lane bit nodes destination links t v w e h l =
+turn-is node live out local remote mark turns nodes destination links flight t v w e h l =
     λ i.
     record {
       net = netOf nodes destination links node;
       up = used links false live;
       ends = record { out = w .out i; local = w .local i; remote = used (2 * links) false remote; mark = w .mark i };
       turns = (ap (used nodes 0) e ∙ counted) i;
-      flight = packets number lane bit (t .flying);
+      flight = flight;
       counts = countsOf t;
     }
   where
@@ -108,6 +100,20 @@ turn-is node live out local remote mark turns number lane bit nodes destination 
             → getD (set turns v (getD turns v 0 + 1)) u 0 ≡ cond (eqb u v) (suc (getD turns u 0)) (getD turns u 0)
         go u (inl e) = rw (e, eqb-true u v e) (getD-set-same turns v (getD turns v 0 + 1) 0 (omega arith) ∙ add-one (getD turns v 0))
         go u (inr e) = rw e (getD-set-other turns v u (getD turns v 0 + 1) 0 (eqb-false u v e))
+
+-- the ends alone tell whether there is a way out after it
+pub turned-out : (node : List ℕ) (live out local mark : List Bool) (links v : ℕ) {out′ local′ mark′ : List Bool} → Turned (endsSeen links node live out local mark) v out′ local′ mark′
+    → hasOut (turn (endsSeen links node live out local mark) v) v ≡ true → hasOut (endsSeen links node live out′ local′ mark′) v ≡ true
+unfolding hasOut turn
+turned-out node live out local mark links v w e = rw (w .out) e
+
+-- and so the search finds one
+pub turned-below : (node : List ℕ) (live out local mark : List Bool) (links v : ℕ) {out′ local′ mark′ : List Bool} {r : ℕ}
+    → Turned (endsSeen links node live out local mark) v out′ local′ mark′ → hasOut (turn (endsSeen links node live out local mark) v) v ≡ true
+    → r ≡ first (outAt (endsSeen links node live out′ [] []) v) 0 (2 * links) → r < 2 * links
+unfolding hasOut
+turned-below node live out local mark links v {out′} w e q =
+    omega (arith, q, way-in (endsSeen links node live out′ [] []) v (turned-out node live out local mark links v w e))
 
 -- ---- an update, and out
 pub onward-by : (s : State) (v x n : ℕ) → x ≡ first (outAt s v) 0 (lanes s) → x < lanes s → leaves s x n ≡ onward s v n

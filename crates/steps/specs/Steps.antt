@@ -5,35 +5,34 @@ use mathlib.Core.Bool.{Bool, true, false, cond}
 use mathlib.Core.List.{List}
 use lib.Dec.{eqb}
 use lib.ListN.{length, getD}
-use Rattle.model.specs.Limits.{nodesMost, linksMost, endsMost, eventsMost}
-use Rattle.model.specs.State.{State}
+use Rattle.model.specs.Limits.{nodesMost, linksMost, endsMost, flightMost, eventsMost}
+use Rattle.model.specs.State.{Packet, State}
 use Rattle.model.specs.declared.Went.the-variants as went
 use Rattle.model.specs.Outcome.{Outcome, counted, gives, leaves, onward}
 use Rattle.arrays.specs.declared.Tally.{Tally}
 use Rattle.steps.specs.declared.tally.Step.{Step}
 use Rattle.arrays.specs.View.{netOf, endsOf, countsOf, stateOf, Chain}
 use Rattle.moves.specs.Turned.{Long}
-use Rattle.arrays.specs.Flight.{Slots, packets}
 
-abbrev pub stateAt : List ℕ → List Bool → List Bool → List Bool → List Bool → List Bool → List ℕ → List ℕ → List ℕ → List Bool → ℕ → ℕ → ℕ → Tally → State
-stateAt node live out local remote mark turns number lane bit nodes destination links t =
-    stateOf (netOf nodes destination links node) live (endsOf links out local remote mark) turns (packets number lane bit (t .flying)) (countsOf t)
+-- the record that the arrays show, with some packets in flight
+abbrev pub stateWith : List ℕ → List Bool → List Bool → List Bool → List Bool → List Bool → List ℕ → ℕ → ℕ → ℕ → List Packet → Tally → State
+stateWith node live out local remote mark turns nodes destination links flight t =
+    stateOf (netOf nodes destination links node) live (endsOf links out local remote mark) turns flight (countsOf t)
 
 -- what a step gives, beside the state that it leaves
 abbrev pub outcomeOf : State → Step → Outcome
 outcomeOf s r = record { state = s; answer = r .answer; handled = r .handled; went = r .went }
 
 -- every array that a packet's way can change has its full length
-pub record Room (out local mark : List Bool) (turns number lane : List ℕ) (bit : List Bool) : Type 0 where
+pub record Room (out local mark : List Bool) (turns : List ℕ) : Type 0 where
   pub long : Long out local mark
   pub turns-long : length turns ≡ nodesMost
-  pub room : Slots number lane bit
 
 -- and so has every array that any event can change
-pub record Whole (live out local remote mark : List Bool) (turns number lane : List ℕ) (bit : List Bool) : Type 0 where
+pub record Whole (live out local remote mark : List Bool) (turns : List ℕ) : Type 0 where
   pub live-long : length live ≡ linksMost
   pub remote-long : length remote ≡ endsMost
-  pub more : Room out local mark turns number lane bit
+  pub more : Room out local mark turns
 
 -- where the chains are used they are right
 abbrev pub Chained : Bool → ℕ → List ℕ → List ℕ → List ℕ → Type 0
@@ -69,3 +68,14 @@ abbrev pub landed : State → ℕ → ℕ → Outcome
 landed s y n =
     cond (eqb (s .net .node y) (s .net .destination)) (gives (counted s 0 1 0 0) n went.Delivered)
     (cond (s .ends .out y) (leaves (counted s 0 0 0 0) y n) (onward (counted s 0 0 0 0) (s .net .node y) n))
+
+-- what the check of a record tells of its arrays
+pub record Sound (node : List ℕ) (live mark : List Bool) (turns : List ℕ) (nodes destination links : ℕ) (t : Tally) : Type 0 where
+  pub nodes-most : nodes ≤ nodesMost
+  pub a-node : destination < nodes
+  pub links-most : links ≤ linksMost
+  pub flying : t .flying ≤ flightMost
+  pub fair : t .events < eventsMost → Fair t
+  pub named : (x : ℕ) → x < 2 * links → getD node x 0 < nodes
+  pub marks : MarksLive links live mark
+  pub turned : (v : ℕ) → v < nodes → getD turns v 0 ≤ t .events

@@ -1,45 +1,44 @@
 // Fail a link.
+use crate::answers::DONE;
+use crate::answers::LINK_DOWN;
+use crate::answers::NO_SUCH;
 use crate::tally::Step;
 use crate::tally::bare;
 use crate::tally::counted;
-use arrays::SLOTS;
 use arrays::Tally;
-use moves::keep_off;
 ghost use mathlib.Core.Path.{_≡_};
 ghost use mathlib.Core.Bool.{Bool, true};
 ghost use mathlib.Core.List.{List};
-ghost use Prim.Native.Nat.{ℕ, _≤_};
+ghost use Prim.Native.Nat.{ℕ, _-_, _≤_};
 ghost use lib.ListN.{length};
 ghost use Rattle.model.specs.Limits.{linksMost, endsMost, flightMost};
+ghost use Rattle.model.specs.State.{Packet};
 ghost use Rattle.model.specs.Formed.{wellFormed};
-ghost use Rattle.model.specs.Fail.{failOf};
-ghost use Rattle.arrays.specs.Flight.{Slots};
-ghost use Rattle.steps.specs.Steps.{stateAt, outcomeOf, Fair};
+ghost use Rattle.model.specs.Fail.{off, failOf};
+ghost use Rattle.arrays.specs.Told.{cleared, passed};
+ghost use Rattle.steps.specs.Steps.{stateWith, outcomeOf, Fair};
 
+// So many packets are on the link, and gone with it.
 pub(crate) fn fail_step(
     live: &mut [bool; model::LINKS],
     mark: &mut [bool; model::ENDS],
-    number: &mut [u32; SLOTS],
-    lane: &mut [u16; SLOTS],
-    bit: &mut [bool; SLOTS],
     links: usize,
     tally: Tally,
     l: usize,
+    gone: usize,
 ) -> Step
-    requires { ⌜ (links ≤ linksMost) × (tally .flying ≤ flightMost) × Fair tally × (length (now live) ≡ linksMost) × (length (now mark) ≡ endsMost) × Slots (now number) (now lane) (now bit) ⌝ }
-    ensures { λ r. ⌜ ((node : List ℕ) (out local remote : List Bool) (turns : List ℕ) (nodes destination : ℕ) → wellFormed (stateAt node (now (live .entry)) out local remote (now (mark .entry)) turns (now (number .entry)) (now (lane .entry)) (now (bit .entry)) nodes destination links tally) ≡ true → outcomeOf (stateAt node (now (live .exit)) out local remote (now (mark .exit)) turns (now (number .exit)) (now (lane .exit)) (now (bit .exit)) nodes destination links (r .tally)) r ≡ failOf (stateAt node (now (live .entry)) out local remote (now (mark .entry)) turns (now (number .entry)) (now (lane .entry)) (now (bit .entry)) nodes destination links tally) l) × (length (now (live .exit)) ≡ linksMost) × (length (now (mark .exit)) ≡ endsMost) × Slots (now (number .exit)) (now (lane .exit)) (now (bit .exit)) ⌝ }
+    requires { ⌜ (links ≤ linksMost) × (tally .flying ≤ flightMost) × (gone ≤ tally .flying) × Fair tally × (length (now live) ≡ linksMost) × (length (now mark) ≡ endsMost) ⌝ }
+    ensures { λ r. ⌜ ((node : List ℕ) (out local remote : List Bool) (turns : List ℕ) (nodes destination : ℕ) (flight : List Packet) → gone ≡ length flight - length (off l flight) → wellFormed (stateWith node (now (live .entry)) out local remote (now (mark .entry)) turns nodes destination links flight tally) ≡ true → outcomeOf (stateWith node (now (live .exit)) out local remote (now (mark .exit)) turns nodes destination links (passed local (cleared (r .answer) l flight) (r .handled) (r .went)) (r .tally)) r ≡ failOf (stateWith node (now (live .entry)) out local remote (now (mark .entry)) turns nodes destination links flight tally) l) × ((local : List Bool) (flight : List Packet) → gone ≡ length flight - length (off l flight) → length flight ≡ tally .flying → length (passed local (cleared (r .answer) l flight) (r .handled) (r .went)) ≡ r .tally .flying) × (length (now (live .exit)) ≡ linksMost) × (length (now (mark .exit)) ≡ endsMost) ⌝ }
 {
     if links <= l {
-        return bare(tally, 6);
+        return bare(tally, NO_SUCH);
     }
     if !live[l] {
-        return bare(tally, 7);
+        return bare(tally, LINK_DOWN);
     }
     live[l] = false;
     mark[2 * l] = false;
     mark[2 * l + 1] = false;
     let flying = tally.flying;
-    let kept = keep_off(number, lane, bit, flying, l);
-    let gone = (flying - kept) as u32;
-    bare(counted(tally, kept, 0, 0, gone, 0), 0)
+    bare(counted(tally, flying - gone, 0, 0, gone as u32, 0), DONE)
 }

@@ -12,8 +12,8 @@ mod tally;
 use answers::NO_MORE_EVENTS;
 use answers::NO_SUCH;
 use answers::NOT_FORMED;
-use arrays::SLOTS;
 use arrays::Tally;
+use arrays::Told;
 use deliver::deliver_step;
 use fail::fail_step;
 use lose::lose_step;
@@ -23,11 +23,13 @@ use tally::bare;
 ghost use mathlib.Core.Path.{_≡_};
 ghost use mathlib.Core.Bool.{Bool, true};
 ghost use mathlib.Core.List.{List};
-ghost use Prim.Native.Nat.{ℕ};
+ghost use Prim.Native.Nat.{ℕ, _≤_, _<_};
 ghost use lib.ListN.{length};
+ghost use Rattle.model.specs.State.{Packet};
 ghost use Rattle.model.specs.Formed.{wellFormed};
-ghost use Rattle.steps.specs.Steps.{stateAt, outcomeOf, Whole, Chained};
 ghost use Rattle.steps.specs.Call.{call};
+ghost use Rattle.arrays.specs.Told.{tells, flies};
+ghost use Rattle.steps.specs.Steps.{stateWith, outcomeOf, Chained, Whole, Sound};
 
 // The kinds of events, as a drill file numbers them.
 pub const SEND: u32 = 1;
@@ -38,6 +40,7 @@ pub const LOSE: u32 = 3;
 
 pub const FAIL: u32 = 4;
 
+// One event, from what the packets in flight tell it; the caller moves these as the answer says.
 pub fn step<'a>(
     formed: bool,
     node: &'a [u16; model::ENDS],
@@ -50,18 +53,16 @@ pub fn step<'a>(
     remote: &mut [bool; model::ENDS],
     mark: &mut [bool; model::ENDS],
     turns: &mut [u32; model::NODES],
-    number: &mut [u32; SLOTS],
-    lane: &mut [u16; SLOTS],
-    bit: &mut [bool; SLOTS],
     nodes: usize,
     destination: usize,
     links: usize,
     tally: Tally,
     kind: u32,
     argument: usize,
+    told: Told,
 ) -> Step
-    requires { ⌜ (formed ≡ wellFormed (stateAt (now node) (now live) (now out) (now local) (now remote) (now mark) (now turns) (now number) (now lane) (now bit) nodes destination links tally)) × Whole (now live) (now out) (now local) (now remote) (now mark) (now turns) (now number) (now lane) (now bit) × Chained chained links (now node) (now heads) (now next) ⌝ }
-    ensures { λ r. ⌜ (outcomeOf (stateAt (now (node .entry)) (now (live .exit)) (now (out .exit)) (now (local .exit)) (now (remote .exit)) (now (mark .exit)) (now (turns .exit)) (now (number .exit)) (now (lane .exit)) (now (bit .exit)) nodes destination links (r .tally)) r ≡ call (stateAt (now (node .entry)) (now (live .entry)) (now (out .entry)) (now (local .entry)) (now (remote .entry)) (now (mark .entry)) (now (turns .entry)) (now (number .entry)) (now (lane .entry)) (now (bit .entry)) nodes destination links tally) kind argument) × Whole (now (live .exit)) (now (out .exit)) (now (local .exit)) (now (remote .exit)) (now (mark .exit)) (now (turns .exit)) (now (number .exit)) (now (lane .exit)) (now (bit .exit)) ⌝ }
+    requires { ⌜ (formed ≡ true → Sound (now node) (now live) (now mark) (now turns) nodes destination links tally) × Whole (now live) (now out) (now local) (now remote) (now mark) (now turns) × Chained chained links (now node) (now heads) (now next) × (told .there ≡ true → 0 < tally .flying) × (told .gone ≤ tally .flying) ⌝ }
+    ensures { λ r. ⌜ ((flight : List Packet) → told ≡ tells flight kind argument → length flight ≡ tally .flying → formed ≡ wellFormed (stateWith (now (node .entry)) (now (live .entry)) (now (out .entry)) (now (local .entry)) (now (remote .entry)) (now (mark .entry)) (now (turns .entry)) nodes destination links flight tally) → outcomeOf (stateWith (now (node .entry)) (now (live .exit)) (now (out .exit)) (now (local .exit)) (now (remote .exit)) (now (mark .exit)) (now (turns .exit)) nodes destination links (flies kind argument (now (local .exit)) flight (r .answer) (r .handled) (r .went)) (r .tally)) r ≡ call (stateWith (now (node .entry)) (now (live .entry)) (now (out .entry)) (now (local .entry)) (now (remote .entry)) (now (mark .entry)) (now (turns .entry)) nodes destination links flight tally) kind argument) × ((flight : List Packet) → told ≡ tells flight kind argument → length flight ≡ tally .flying → length (flies kind argument (now (local .exit)) flight (r .answer) (r .handled) (r .went)) ≡ r .tally .flying) × Whole (now (live .exit)) (now (out .exit)) (now (local .exit)) (now (remote .exit)) (now (mark .exit)) (now (turns .exit)) ⌝ }
 {
     if !formed {
         return bare(tally, NOT_FORMED);
@@ -80,9 +81,6 @@ pub fn step<'a>(
             local,
             mark,
             turns,
-            number,
-            lane,
-            bit,
             nodes,
             destination,
             links,
@@ -102,21 +100,19 @@ pub fn step<'a>(
             remote,
             mark,
             turns,
-            number,
-            lane,
-            bit,
             nodes,
             destination,
             links,
             tally,
             argument,
+            told,
         );
     }
     if kind == LOSE {
-        return lose_step(live, number, lane, bit, links, tally, argument);
+        return lose_step(live, links, tally, argument, told);
     }
     if kind == FAIL {
-        return fail_step(live, mark, number, lane, bit, links, tally, argument);
+        return fail_step(live, mark, links, tally, argument, told.gone);
     }
     bare(tally, NO_SUCH)
 }

@@ -1,45 +1,41 @@
 // Lose the oldest packet of a lane.
 use crate::answers::DONE;
-use crate::lanes::find;
+use crate::lanes::refusal;
 use crate::tally::Step;
 use crate::tally::bare;
 use crate::tally::counted;
 use crate::tally::done;
-use arrays::SLOTS;
 use arrays::Tally;
+use arrays::Told;
 use model::Went;
-use moves::take_out;
 ghost use mathlib.Core.Path.{_≡_};
 ghost use mathlib.Core.Bool.{Bool, true};
 ghost use mathlib.Core.List.{List};
-ghost use Prim.Native.Nat.{ℕ, _≤_};
-ghost use Rattle.model.specs.Limits.{linksMost, flightMost};
+ghost use Prim.Native.Nat.{ℕ, _≤_, _<_};
+ghost use lib.ListN.{length};
+ghost use Rattle.model.specs.Limits.{linksMost};
+ghost use Rattle.model.specs.State.{Packet};
 ghost use Rattle.model.specs.Formed.{wellFormed};
+ghost use Rattle.model.specs.Lanes.{onLane};
 ghost use Rattle.model.specs.Lose.{loseOn};
-ghost use Rattle.arrays.specs.Flight.{Slots};
-ghost use Rattle.steps.specs.Steps.{stateAt, outcomeOf, Fair};
+ghost use Rattle.arrays.specs.Told.{oldestIn, without, passed};
+ghost use Rattle.steps.specs.Steps.{stateWith, outcomeOf, Fair};
 
 pub(crate) fn lose_step(
     live: &[bool; model::LINKS],
-    number: &mut [u32; SLOTS],
-    lane: &mut [u16; SLOTS],
-    bit: &mut [bool; SLOTS],
     links: usize,
     tally: Tally,
     x: usize,
+    told: Told,
 ) -> Step
-    requires { ⌜ (links ≤ linksMost) × (tally .flying ≤ flightMost) × Fair tally × Slots (now number) (now lane) (now bit) ⌝ }
-    ensures { λ r. ⌜ ((node : List ℕ) (out local remote mark : List Bool) (turns : List ℕ) (nodes destination : ℕ) → wellFormed (stateAt node (now (live .entry)) out local remote mark turns (now (number .entry)) (now (lane .entry)) (now (bit .entry)) nodes destination links tally) ≡ true → outcomeOf (stateAt node (now (live .entry)) out local remote mark turns (now (number .exit)) (now (lane .exit)) (now (bit .exit)) nodes destination links (r .tally)) r ≡ loseOn (stateAt node (now (live .entry)) out local remote mark turns (now (number .entry)) (now (lane .entry)) (now (bit .entry)) nodes destination links tally) x) × Slots (now (number .exit)) (now (lane .exit)) (now (bit .exit)) ⌝ }
+    requires { ⌜ (links ≤ linksMost) × Fair tally × (told .there ≡ true → 0 < tally .flying) ⌝ }
+    ensures { λ r. ⌜ ((node : List ℕ) (out local remote mark : List Bool) (turns : List ℕ) (nodes destination : ℕ) (flight : List Packet) → told ≡ oldestIn (onLane x flight) → wellFormed (stateWith node (now (live .entry)) out local remote mark turns nodes destination links flight tally) ≡ true → outcomeOf (stateWith node (now (live .entry)) out local remote mark turns nodes destination links (passed local (without (r .answer) x flight) (r .handled) (r .went)) (r .tally)) r ≡ loseOn (stateWith node (now (live .entry)) out local remote mark turns nodes destination links flight tally) x) × ((local : List Bool) (flight : List Packet) → told ≡ oldestIn (onLane x flight) → length flight ≡ tally .flying → length (passed local (without (r .answer) x flight) (r .handled) (r .went)) ≡ r .tally .flying) ⌝ }
 {
-    let flying = tally.flying;
-    let found = find(live, lane, links, flying, x);
-    let answer = found.answer;
+    let answer = refusal(live, links, x, told.there);
     if answer != DONE {
         return bare(tally, answer);
     }
-    let i = found.at;
-    let n = number[i];
-    let last = flying - 1;
-    take_out(number, lane, bit, i, last);
-    done(counted(tally, last, 0, 0, 1, 0), n, Went::Lost)
+    let n = told.number;
+    let flying = tally.flying;
+    done(counted(tally, flying - 1, 0, 0, 1, 0), n, Went::Lost)
 }

@@ -1,23 +1,26 @@
 // Send at a node.
-use crate::depart::leave;
-use crate::depart::turn_and_leave;
+use crate::answers::FLIGHT_FULL;
+use crate::answers::NO_SUCH;
+use crate::depart::turned_way;
 use crate::tally::Step;
 use crate::tally::bare;
 use crate::tally::counted;
 use crate::tally::done;
-use arrays::SLOTS;
 use arrays::Tally;
 use model::Went;
 use moves::held;
 use moves::way;
 ghost use mathlib.Core.Path.{_≡_};
 ghost use mathlib.Core.Bool.{Bool, true};
-ghost use mathlib.Core.List.{List, []};
+ghost use mathlib.Core.List.{List};
 ghost use Prim.Native.Nat.{ℕ, _<_};
+ghost use lib.ListN.{length};
 ghost use Rattle.model.specs.Limits.{eventsMost};
+ghost use Rattle.model.specs.State.{Packet};
 ghost use Rattle.model.specs.Formed.{wellFormed};
 ghost use Rattle.model.specs.Send.{sendTo};
-ghost use Rattle.steps.specs.Steps.{stateAt, outcomeOf, Room, Chained};
+ghost use Rattle.arrays.specs.Told.{passed};
+ghost use Rattle.steps.specs.Steps.{stateWith, outcomeOf, Room, Chained, Sound};
 
 pub(crate) fn send_step<'a>(
     node: &'a [u16; model::ENDS],
@@ -29,20 +32,17 @@ pub(crate) fn send_step<'a>(
     local: &mut [bool; model::ENDS],
     mark: &mut [bool; model::ENDS],
     turns: &mut [u32; model::NODES],
-    number: &mut [u32; SLOTS],
-    lane: &mut [u16; SLOTS],
-    bit: &mut [bool; SLOTS],
     nodes: usize,
     destination: usize,
     links: usize,
     tally: Tally,
     v: usize,
 ) -> Step
-    requires { ⌜ (wellFormed (stateAt (now node) (now live) (now out) (now local) [] (now mark) (now turns) (now number) (now lane) (now bit) nodes destination links tally) ≡ true) × (tally .events < eventsMost) × Room (now out) (now local) (now mark) (now turns) (now number) (now lane) (now bit) × Chained chained links (now node) (now heads) (now next) ⌝ }
-    ensures { λ r. ⌜ ((remote : List Bool) → outcomeOf (stateAt (now (node .entry)) (now (live .entry)) (now (out .exit)) (now (local .exit)) remote (now (mark .exit)) (now (turns .exit)) (now (number .exit)) (now (lane .exit)) (now (bit .exit)) nodes destination links (r .tally)) r ≡ sendTo (stateAt (now (node .entry)) (now (live .entry)) (now (out .entry)) (now (local .entry)) remote (now (mark .entry)) (now (turns .entry)) (now (number .entry)) (now (lane .entry)) (now (bit .entry)) nodes destination links tally) v) × Room (now (out .exit)) (now (local .exit)) (now (mark .exit)) (now (turns .exit)) (now (number .exit)) (now (lane .exit)) (now (bit .exit)) ⌝ }
+    requires { ⌜ Sound (now node) (now live) (now mark) (now turns) nodes destination links tally × (tally .events < eventsMost) × Room (now out) (now local) (now mark) (now turns) × Chained chained links (now node) (now heads) (now next) ⌝ }
+    ensures { λ r. ⌜ ((remote : List Bool) (flight : List Packet) → length flight ≡ tally .flying → wellFormed (stateWith (now (node .entry)) (now (live .entry)) (now (out .entry)) (now (local .entry)) remote (now (mark .entry)) (now (turns .entry)) nodes destination links flight tally) ≡ true → outcomeOf (stateWith (now (node .entry)) (now (live .entry)) (now (out .exit)) (now (local .exit)) remote (now (mark .exit)) (now (turns .exit)) nodes destination links (passed (now (local .exit)) flight (r .handled) (r .went)) (r .tally)) r ≡ sendTo (stateWith (now (node .entry)) (now (live .entry)) (now (out .entry)) (now (local .entry)) remote (now (mark .entry)) (now (turns .entry)) nodes destination links flight tally) v) × ((flight : List Packet) → length flight ≡ tally .flying → length (passed (now (local .exit)) flight (r .handled) (r .went)) ≡ r .tally .flying) × Room (now (out .exit)) (now (local .exit)) (now (mark .exit)) (now (turns .exit)) ⌝ }
 {
     if nodes <= v {
-        return bare(tally, 6);
+        return bare(tally, NO_SUCH);
     }
     let n = tally.admitted;
     let flying = tally.flying;
@@ -55,10 +55,10 @@ pub(crate) fn send_step<'a>(
             return done(counted(tally, flying, 1, 0, 0, 1), n, Went::Stranded);
         }
         if model::FLIGHT <= flying {
-            return bare(tally, 9);
+            return bare(tally, FLIGHT_FULL);
         }
-        let t = counted(tally, flying, 1, 0, 0, 0);
-        return turn_and_leave(
+        let t = counted(tally, flying + 1, 1, 0, 0, 0);
+        let y = turned_way(
             node,
             heads,
             next,
@@ -68,27 +68,15 @@ pub(crate) fn send_step<'a>(
             local,
             mark,
             turns,
-            number,
-            lane,
-            bit,
             nodes,
             links,
-            t,
             v,
-            n,
         );
+        return done(t, n, Went::Lane(y));
     }
     if model::FLIGHT <= flying {
-        return bare(tally, 9);
+        return bare(tally, FLIGHT_FULL);
     }
-    leave(
-        local,
-        number,
-        lane,
-        bit,
-        links,
-        counted(tally, flying, 1, 0, 0, 0),
-        x,
-        n,
-    )
+    let t = counted(tally, flying + 1, 1, 0, 0, 0);
+    done(t, n, Went::Lane(x))
 }

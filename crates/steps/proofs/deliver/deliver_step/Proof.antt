@@ -1,55 +1,49 @@
--- The search of the lane, the bit out of step, then the packet lands, its news heard. Assumes nothing.
-use Prim.Native.Nat.{ℕ, _+_, _-_, _*_, _/_, _≤_, _<_}
+-- The refusals, the bit out of step, then the packet lands, its news heard. Assumes nothing.
+use Prim.Native.Nat.{ℕ, _-_, _*_, _/_, _<_}
 use native.Mathlib.Omega.{arith}
-use mathlib.Core.Path.{_≡_, refl, sym, ap, _∙_}
+use mathlib.Core.Path.{_≡_, sym, ap, _∙_}
 use mathlib.Core.Bool.{Bool, true, false, not, cond, xor, _&&_, _||_}
-use mathlib.Core.List.{[]}
+use mathlib.Core.List.{List}
 use lib.ListN.{getD, length, length-set}
 use denote.Ref.{now}
 use Rattle.model.specs.Answers as answers
-use Rattle.model.specs.State.{State, Packet, opp}
+use Rattle.model.specs.State.{State, Packet}
+use Rattle.model.specs.Formed.{wellFormed}
 use Rattle.model.specs.Outcome.{Outcome, refuse}
-use Rattle.model.specs.Departure.{hasLive}
 use Rattle.model.specs.Deliver.{news, deliverOn}
-use Rattle.model.specs.Lanes.{taken, offLane}
+use Rattle.model.specs.Lanes.{onLane, less, taken, offLane}
 use Rattle.model.proofs.Ends.{opp-below, link-opp}
-use Rattle.arrays.specs.View.{netOf, endsOf, countsOf, packetAt}
-use Rattle.arrays.specs.Flight.{slots, packets}
+use Rattle.model.proofs.Lanes.{less-length}
+use Rattle.arrays.specs.View.{netOf, endsOf, countsOf}
+use Rattle.arrays.specs.Told.{oldestIn}
 use Rattle.arrays.proofs.Below.{used-in}
-use Rattle.steps.specs.Steps.{stateAt, outcomeOf, landed}
-use Rattle.steps.proofs.Sounds.{Sound, sound-if}
-use Rattle.steps.proofs.OffLanes.{There, there, off-refused, off-found, took-is, rest-there, slots-kept}
+use Rattle.steps.specs.Steps.{stateWith, landed}
+use Rattle.steps.proofs.OffLanes.{There, is-there, Oldest, told-oldest, off-refused, off-found, took-is, took-gives, took-long, bare-keeps, bare-long}
 use Rattle.steps.proofs.Deliveries.{fresh-is, out-of-step, deal-lands, held-at, heard-is}
 use borrow.Author.Needs.{needs}
 use Rattle.steps.proofs.deliver.deliver_step.Statement.{statement}
 use Rattle.steps.proofs.deliver.deliver_step.Tie as tie
 
--- the state at entry
-abbrev seen : tie.Start → State
-seen c =
+-- the state at entry, with some packets
+abbrev seen : tie.Start → List Packet → State
+seen c flight =
     let a = c .args in
-    stateAt (now (a .node)) (now (a .live)) (now (a .out)) (now (a .local)) (now (a .remote)) (now (a .mark)) (now (a .turns)) (now (a .number)) (now (a .lane)) (now (a .bit)) (a .nodes) (a .destination) (a .links) (a .tally)
+    stateWith (now (a .node)) (now (a .live)) (now (a .out)) (now (a .local)) (now (a .remote)) (now (a .mark)) (now (a .turns)) (a .nodes) (a .destination) (a .links) flight (a .tally)
 
--- what a well-formed record tells
-sound : (c : tie.Start) → let a = c .args in Sound (now (a .node)) (now (a .live)) (now (a .out)) (now (a .local)) (now (a .remote)) (now (a .mark)) (now (a .turns)) (now (a .number)) (now (a .lane)) (now (a .bit)) (a .nodes) (a .destination) (a .links) (a .tally)
-sound c =
-    let a = c .args in
-    sound-if (now (a .node)) (now (a .live)) (now (a .out)) (now (a .local)) (now (a .remote)) (now (a .mark)) (now (a .turns)) (now (a .number)) (now (a .lane)) (now (a .bit)) (a .nodes) (a .destination) (a .links) (a .tally) (c .pre .0)
-
--- the packet that was found
-oldest : (c : tie.Else1) → let a = c .before .before .before .args in There (now (a .live)) (now (a .lane)) (a .links) (a .tally .flying) (a .x) (c .before .find .result)
+-- there is a packet
+oldest : (c : tie.Else1) → let a = c .before .before .args in There (now (a .live)) (a .links) (a .x) (a .told .there)
 oldest c =
-    let a = c .before .before .before .args in
-    there (now (a .live)) (now (a .lane)) (a .links) (a .tally .flying) (a .x) _ (c .before .find .ensures) (c .if1 .left)
+    let a = c .before .before .args in
+    is-there (now (a .live)) (a .links) (a .x) (a .told .there) (c .before .refusal .ensures) (c .if1 .left)
 
 -- the end that it comes to
-within : (c : tie.After-other) → c .other .result < 2 * c .before .before .before .before .args .links
+within : (c : tie.After-other) → c .other .result < 2 * c .before .before .before .args .links
 within c =
-    let a = c .before .before .before .before .args in
+    let a = c .before .before .before .args in
     omega (arith, c .other .ensures .0, opp-below (a .x) (a .links) (oldest (c .before) .inside))
 
-find-requires : tie.Need-find-requires
-find-requires c κs = search needs
+refusal-requires : tie.Need-refusal-requires
+refusal-requires c κs = c .pre .0 .links-most
 
 bare-requires : tie.Need-bare-requires
 bare-requires c κs = search needs
@@ -57,20 +51,17 @@ bare-requires c κs = search needs
 returns : tie.Need-returns
 unfolding deliverOn
 returns c =
-    let a = c .before .before .before .before .args in (
-      ap (λ r. outcomeOf (stateAt (now (a .node)) (now (a .live)) (now (a .out)) (now (a .local)) (now (a .remote)) (now (a .mark)) (now (a .turns)) (now (a .number)) (now (a .lane)) (now (a .bit)) (a .nodes) (a .destination) (a .links) (r .tally)) r) (c .bare .ensures)
-          ∙ off-refused (now (a .live)) (now (a .lane)) (a .links) (a .tally .flying) (a .x) _ (c .before .before .find .ensures) (now (a .node)) (endsOf (a .links) (now (a .out)) (now (a .local)) (now (a .remote)) (now (a .mark))) (now (a .turns)) (now (a .number)) (now (a .bit)) (a .nodes) (a .destination) (countsOf (a .tally)) (c .before .before .before .before .pre .0) (c .before .before .before .before .pre .1) _ (c .before .if1 .taken),
-      c .before .before .before .before .pre .2,
-      c .before .before .before .before .pre .4,
+    let a = c .before .before .before .args in (
+      λ flight e formed.
+          bare-keeps (now (a .node)) (now (a .live)) (now (a .out)) (now (a .local)) (now (a .remote)) (now (a .mark)) (now (a .turns)) (a .nodes) (a .destination) (a .links) flight (a .x) (c .bare .ensures) (c .before .if1 .taken)
+          ∙ off-refused (now (a .live)) (a .links) (a .x) (a .told) (now (a .node)) (endsOf (a .links) (now (a .out)) (now (a .local)) (now (a .remote)) (now (a .mark))) (now (a .turns)) (a .nodes) (a .destination) flight (countsOf (a .tally)) e formed (c .before .before .before .pre .1) _ (c .before .before .refusal .ensures) (c .before .if1 .taken),
+      λ flight e l. bare-long (now (a .local)) flight (a .x) (c .bare .ensures) (c .before .if1 .taken) l,
+      c .before .before .before .pre .3,
+      c .before .before .before .pre .5,
     )
 
 other-requires : tie.Need-other-requires
-other-requires c κs = omega (arith, oldest c .inside, sound ((c .before .before .before)) .sizes .links-most)
-
-element-copy-out-p : tie.Need-element-copy-out-p
-element-copy-out-p c =
-    let inside : c .before .before .find .result .at < slots = omega (arith, oldest (c .before) .within, c .before .before .before .before .pre .6) in
-    search needs
+other-requires c κs = omega (arith, oldest c .inside, c .before .before .pre .0 .links-most)
 
 element-copy-out-q : tie.Need-element-copy-out-q
 element-copy-out-q c = search needs
@@ -84,137 +75,129 @@ bare-requires-2 c κs = search needs
 -- what the packet says to the end that it comes to
 module _ (c : tie.After-other) where
   abbrev a : tie.Start
-  a = c .before .before .before .before
+  a = c .before .before .before
 
   abbrev y : ℕ
   y = c .other .result
-
-  abbrev packet : Packet
-  packet = packetAt (now (a .args .number)) (now (a .args .lane)) (now (a .args .bit)) (c .before .before .find .result .at)
 
   abbrev was : Bool
   was = getD (now (a .args .out)) y false
 
   abbrev fresh : Bool
-  fresh = packet .bit && not (getD (now (a .args .remote)) y false) || not (packet .bit) && getD (now (a .args .remote)) y false
+  fresh = a .args .told .bit && not (getD (now (a .args .remote)) y false) || not (a .args .told .bit) && getD (now (a .args .remote)) y false
 
-  was-out : seen a .ends .out y ≡ was
-  was-out = used-in (2 * a .args .links) false (now (a .args .out)) y (within c)
+  module _ (flight : List Packet) (e : a .args .told ≡ oldestIn (onLane (a .args .x) flight)) where
+    abbrev one : Oldest (onLane (a .args .x) flight) (a .args .told)
+    one = told-oldest (onLane (a .args .x) flight) e (oldest (c .before) .one)
 
-  said : xor (packet .bit) (seen a .ends .remote y) ≡ fresh
-  said =
-      ap (xor (packet .bit)) (used-in (2 * a .args .links) false (now (a .args .remote)) y (within c))
-      ∙ sym (fresh-is (packet .bit) (getD (now (a .args .remote)) y false))
+    was-out : seen a flight .ends .out y ≡ was
+    was-out = used-in (2 * a .args .links) false (now (a .args .out)) y (within c)
 
-  taken-off : (f : Packet → Outcome) → f packet ≡ offLane (seen a) (a .args .x) f
-  taken-off f =
-      let b = a .args in
-      off-found (now (b .live)) (now (b .lane)) (b .links) (b .tally .flying) (b .x) _ (c .before .before .find .ensures) (now (b .node)) (endsOf (b .links) (now (b .out)) (now (b .local)) (now (b .remote)) (now (b .mark))) (now (b .turns)) (now (b .number)) (now (b .bit)) (b .nodes) (b .destination) (countsOf (b .tally)) (a .pre .0) (a .pre .1) f (oldest (c .before))
+    said : xor (one .packet .bit) (seen a flight .ends .remote y) ≡ fresh
+    said =
+        ap (λ b. xor b (seen a flight .ends .remote y)) (sym (one .bit))
+        ∙ ap (xor (a .args .told .bit)) (used-in (2 * a .args .links) false (now (a .args .remote)) y (within c))
+        ∙ sym (fresh-is (a .args .told .bit) (getD (now (a .args .remote)) y false))
 
-  refused : (not was && fresh) ≡ true → refuse (seen a) answers.outOfStep ≡ deliverOn (seen a) (a .args .x)
-  unfolding deliverOn
-  refused e = sym (out-of-step (seen a) (a .args .x) packet y (c .other .ensures .0) was fresh was-out said e) ∙ taken-off _
+    one-less : length flight ≡ a .args .tally .flying → length (less (a .args .x) flight) ≡ a .args .tally .flying - 1
+    one-less l = omega (arith, l, less-length (a .args .x) flight (one .first))
 
-  lands : (not was && fresh) ≡ false
-      → landed (cond fresh (news (taken (seen a) (a .args .x)) y) (taken (seen a) (a .args .x))) y (packet .number) ≡ deliverOn (seen a) (a .args .x)
-  unfolding deliverOn
-  lands e = sym (deal-lands (seen a) (a .args .x) packet y (c .other .ensures .0) was fresh was-out said e) ∙ taken-off _
+    module _ (formed : wellFormed (seen a flight) ≡ true) where
+      taken-off : (f : Packet → Outcome) → f (one .packet) ≡ offLane (seen a flight) (a .args .x) f
+      taken-off f =
+          let b = a .args in
+          off-found (now (b .live)) (b .links) (b .x) (b .told) (now (b .node)) (endsOf (b .links) (now (b .out)) (now (b .local)) (now (b .remote)) (now (b .mark))) (now (b .turns)) (b .nodes) (b .destination) flight (countsOf (b .tally)) e formed (a .pre .1) f (oldest (c .before)) (one .first)
+
+      refused : (not was && fresh) ≡ true → refuse (seen a flight) answers.outOfStep ≡ deliverOn (seen a flight) (a .args .x)
+      unfolding deliverOn
+      refused h = sym (out-of-step (seen a flight) (a .args .x) (one .packet) y (c .other .ensures .0) was fresh was-out said h) ∙ taken-off _
+
+      lands : (not was && fresh) ≡ false
+          → landed (cond fresh (news (taken (seen a flight) (a .args .x)) y) (taken (seen a flight) (a .args .x))) y (a .args .told .number) ≡ deliverOn (seen a flight) (a .args .x)
+      unfolding deliverOn
+      lands h =
+          ap (landed (cond fresh (news (taken (seen a flight) (a .args .x)) y) (taken (seen a flight) (a .args .x))) y) (one .number)
+          ∙ sym (deal-lands (seen a flight) (a .args .x) (one .packet) y (c .other .ensures .0) was fresh was-out said h)
+          ∙ taken-off _
 
 returns-2 : tie.Need-returns-2
 returns-2 c =
-    let a = c .before .before .before .before .before .before .before .before .before .args in (
-      ap (λ r. outcomeOf (stateAt (now (a .node)) (now (a .live)) (now (a .out)) (now (a .local)) (now (a .remote)) (now (a .mark)) (now (a .turns)) (now (a .number)) (now (a .lane)) (now (a .bit)) (a .nodes) (a .destination) (a .links) (r .tally)) r) (c .bare2 .ensures)
-          ∙ refused (c .before .before .before .before .before) (c .before .if2 .taken),
-      c .before .before .before .before .before .before .before .before .before .pre .2,
-      c .before .before .before .before .before .before .before .before .before .pre .4,
+    let a = c .before .before .before .before .before .before .before .args in (
+      λ flight e formed.
+          bare-keeps (now (a .node)) (now (a .live)) (now (a .out)) (now (a .local)) (now (a .remote)) (now (a .mark)) (now (a .turns)) (a .nodes) (a .destination) (a .links) flight (a .x) (c .bare2 .ensures) (λ z. omega (arith, z))
+          ∙ refused (c .before .before .before .before) flight e formed (c .before .if2 .taken),
+      λ flight e l. bare-long (now (a .local)) flight (a .x) (c .bare2 .ensures) (λ z. omega (arith, z)) l,
+      c .before .before .before .before .before .before .before .pre .3,
+      c .before .before .before .before .before .before .before .pre .5,
     )
 
-mul-n : tie.Need-mul-n
-mul-n c =
-    let t = oldest (c .before .before .before .before .before) in search needs
-
-element-copy-out-n : tie.Need-element-copy-out-n
-element-copy-out-n c =
-    let inside : c .before .before .before .before .before .before .find .result .at < slots = omega (arith, oldest (c .before .before .before .before .before) .within, c .before .before .before .before .before .before .before .before .pre .6) in
-    search needs
-
-sub-last : tie.Need-sub-last
-sub-last c = omega (arith, oldest (c .before .before .before .before .before .before) .within)
-
-take-out-requires : tie.Need-take-out-requires
-take-out-requires c κs =
-    let t = oldest (c .before .before .before .before .before .before .before .before .before) in
-    (omega (arith, t .within), omega (arith, t .within, c .before .before .before .before .before .before .before .before .before .before .before .before .pre .6), c .before .before .before .before .before .before .before .before .before .before .before .before .pre .2 .room)
+sub-t : tie.Need-sub-t
+sub-t c = omega (arith, c .before .before .before .before .before .before .before .pre .2 (oldest (c .before .before .before .before .before) .one))
 
 hear-requires : tie.Need-hear-requires
-hear-requires c κs = (omega (arith, within (c .before .before .before .before .before .before .before .before .before .before .before), sound (c .before .before .before .before .before .before .before .before .before .before .before .before .before .before .before) .sizes .links-most), c .before .before .before .before .before .before .before .before .before .before .before .before .before .before .before .pre .2 .long .out-long, c .before .before .before .before .before .before .before .before .before .before .before .before .before .before .before .pre .4)
+hear-requires c κs = (omega (arith, within (c .before .before .before .before .before .before), c .before .before .before .before .before .before .before .before .before .pre .0 .links-most), c .before .before .before .before .before .before .before .before .before .pre .3 .long .out-long, c .before .before .before .before .before .before .before .before .before .pre .5)
 
 land-requires : tie.Need-land-requires
 land-requires c κs =
-    let a = c .before .before .before .before .before .before .before .before .before .before .before .before .before .before .before .before .before .before .before .before .before .before .before .args in
-    let s = sound (c .before .before .before .before .before .before .before .before .before .before .before .before .before .before .before .before .before .before .before .before .before .before .before) in
-    let fair = s .fair (c .before .before .before .before .before .before .before .before .before .before .before .before .before .before .before .before .before .before .before .before .before .before .before .pre .1) in
-    let t = oldest (c .before .before .before .before .before .before .before .before .before .before .before .before .before .before .before .before .before .before .before .before) in
-    let y = c .before .before .before .before .before .before .before .before .before .before .before .before .before .before .before .before .before .before .before .other .result in
-    let inside = within (c .before .before .before .before .before .before .before .before .before .before .before .before .before .before .before .before .before .before .before) in
-    let link : getD (now (a .live)) (y / 2) false ≡ true = ap (λ l. getD (now (a .live)) l false) (ap (λ z. z / 2) (c .before .before .before .before .before .before .before .before .before .before .before .before .before .before .before .before .before .before .before .other .ensures .0) ∙ link-opp (a .x)) ∙ t .up in (
-      s .sizes .links-most,
-      s .sizes .nodes-most,
+    let a = c .before .before .before .before .before .before .before .before .before .before .before .before .before .before .args in
+    let s = c .before .before .before .before .before .before .before .before .before .before .before .before .before .before .pre .0 in
+    let fair = s .fair (c .before .before .before .before .before .before .before .before .before .before .before .before .before .before .pre .1) in
+    let t = oldest (c .before .before .before .before .before .before .before .before .before .before .before .before) in
+    let y = c .before .before .before .before .before .before .before .before .before .before .before .other .result in
+    let inside = within (c .before .before .before .before .before .before .before .before .before .before .before) in
+    let link : getD (now (a .live)) (y / 2) false ≡ true = ap (λ l. getD (now (a .live)) l false) (ap (λ z. z / 2) (c .before .before .before .before .before .before .before .before .before .before .before .other .ensures .0) ∙ link-opp (a .x)) ∙ t .up in (
+      s .links-most,
+      s .nodes-most,
       inside,
       s .named y inside,
-      omega (arith, s .turned (getD (now (a .node)) y 0) (s .named y inside), c .before .before .before .before .before .before .before .before .before .before .before .before .before .before .before .before .before .before .before .before .before .before .before .pre .1),
-      omega (arith, s .flying, t .within),
+      omega (arith, s .turned (getD (now (a .node)) y 0) (s .named y inside), c .before .before .before .before .before .before .before .before .before .before .before .before .before .before .pre .1),
+      omega (arith, s .flying, c .before .before .before .before .before .before .before .before .before .before .before .before .before .before .pre .2 (t .one)),
       held-at _ (getD (now (a .node)) y 0) y inside (used-in (2 * a .links) 0 (now (a .node)) y inside) (used-in (a .links) false (now (a .live)) (y / 2) (omega (arith, inside)) ∙ link),
       record {
         long = record {
-          out-long = ap length (c .before .before .before .before .before .before .before .hear .ensures .0) ∙ length-set (now (a .out)) y _ ∙ c .before .before .before .before .before .before .before .before .before .before .before .before .before .before .before .before .before .before .before .before .before .before .before .pre .2 .long .out-long;
-          local-long = c .before .before .before .before .before .before .before .before .before .before .before .before .before .before .before .before .before .before .before .before .before .before .before .pre .2 .long .local-long;
-          mark-long = c .before .before .before .before .before .before .before .before .before .before .before .before .before .before .before .before .before .before .before .before .before .before .before .pre .2 .long .mark-long;
+          out-long = ap length (c .before .before .before .before .hear .ensures .0) ∙ length-set (now (a .out)) y _ ∙ c .before .before .before .before .before .before .before .before .before .before .before .before .before .before .pre .3 .long .out-long;
+          local-long = c .before .before .before .before .before .before .before .before .before .before .before .before .before .before .pre .3 .long .local-long;
+          mark-long = c .before .before .before .before .before .before .before .before .before .before .before .before .before .before .pre .3 .long .mark-long;
         };
-        turns-long = c .before .before .before .before .before .before .before .before .before .before .before .before .before .before .before .before .before .before .before .before .before .before .before .pre .2 .turns-long;
-        room = slots-kept (c .before .before .before .before .before .before .before .before .before .before .before .before .before .before .before .before .before .before .before .before .before .before .before .pre .2 .room) (c .before .before .before .before .before .before .before .before .before .before .take-out .ensures);
+        turns-long = c .before .before .before .before .before .before .before .before .before .before .before .before .before .before .pre .3 .turns-long;
       },
-      c .before .before .before .before .before .before .before .before .before .before .before .before .before .before .before .before .before .before .before .before .before .before .before .pre .3,
+      c .before .before .before .before .before .before .before .before .before .before .before .before .before .before .pre .4,
       s .marks,
       record { events = fair .events; admitted = fair .admitted; delivered = fair .delivered; lost = fair .lost; stranded = fair .stranded },
     )
 
 returns-3 : tie.Need-returns-3
 returns-3 c =
-    let a = c .before .before .before .before .before .before .before .before .before .before .before .before .before .before .before .before .before .before .before .before .before .before .before .before .args in
-    let t = oldest (c .before .before .before .before .before .before .before .before .before .before .before .before .before .before .before .before .before .before .before .before .before) in
-    let last = a .tally .flying - 1 in
-    let ends = endsOf (a .links) (now (a .out)) (now (a .local)) (now (a .remote)) (now (a .mark)) in
+    let a = c .before .before .before .before .before .before .before .before .before .before .before .before .before .before .before .args in
     let net = netOf (a .nodes) (a .destination) (a .links) (now (a .node)) in
-    let left = packets (c .before .before .before .before .before .before .before .before .before .before .before .take-out .last .0) (c .before .before .before .before .before .before .before .before .before .before .before .take-out .last .1 .0) (c .before .before .before .before .before .before .before .before .before .before .before .take-out .last .1 .1 .0) last in
-    let off = took-is net (now (a .live)) ends (now (a .turns)) (packets (now (a .number)) (now (a .lane)) (now (a .bit)) (a .tally .flying)) left (countsOf (a .tally)) (a .x)
-    (rest-there (now (a .number)) (now (a .lane)) (now (a .bit)) (a .x) _ (a .tally .flying) (t .at) (t .within) _ _ _ last (omega (arith, t .within)) (c .before .before .before .before .before .before .before .before .before .before .before .take-out .ensures)) in (
-      c .land .ensures .0 (c .before .before .before .before .before .before .before .before .hear .last .1 .0)
-          ∙ ap (λ (s : State). landed s (c .before .before .before .before .before .before .before .before .before .before .before .before .before .before .before .before .before .before .before .before .other .result) (packet (c .before .before .before .before .before .before .before .before .before .before .before .before .before .before .before .before .before .before .before .before) .number))
-          (heard-is net (now (a .live)) (now (a .out)) (now (a .local)) (now (a .remote)) (now (a .mark)) (now (a .turns)) left (countsOf (a .tally)) (c .before .before .before .before .before .before .before .before .before .before .before .before .before .before .before .before .before .before .before .before .other .result)
-          (within (c .before .before .before .before .before .before .before .before .before .before .before .before .before .before .before .before .before .before .before .before)) (sound (c .before .before .before .before .before .before .before .before .before .before .before .before .before .before .before .before .before .before .before .before .before .before .before .before) .sizes .links-most) (c .before .before .before .before .before .before .before .before .before .before .before .before .before .before .before .before .before .before .before .before .before .before .before .before .pre .2 .long .out-long) (c .before .before .before .before .before .before .before .before .before .before .before .before .before .before .before .before .before .before .before .before .before .before .before .before .pre .4) (fresh (c .before .before .before .before .before .before .before .before .before .before .before .before .before .before .before .before .before .before .before .before)) (c .before .before .before .before .before .before .before .before .hear .last .0) (c .before .before .before .before .before .before .before .before .hear .last .1 .0) (c .before .before .before .before .before .before .before .before .hear .ensures .0) (c .before .before .before .before .before .before .before .before .hear .ensures .1) off)
-          ∙ lands (c .before .before .before .before .before .before .before .before .before .before .before .before .before .before .before .before .before .before .before .before) (c .before .before .before .before .before .before .before .before .before .before .before .before .before .before .before .before .if2 .left),
-      c .land .ensures .1,
-      ap length (c .before .before .before .before .before .before .before .before .hear .ensures .1) ∙ length-set (now (a .remote)) (c .before .before .before .before .before .before .before .before .before .before .before .before .before .before .before .before .before .before .before .before .other .result) _ ∙ c .before .before .before .before .before .before .before .before .before .before .before .before .before .before .before .before .before .before .before .before .before .before .before .before .pre .4,
+    let ends = endsOf (a .links) (now (a .out)) (now (a .local)) (now (a .remote)) (now (a .mark)) in
+    let y = c .before .before .before .before .before .before .before .before .before .before .before .before .other .result in (
+      λ flight e formed.
+          took-gives (c .land .last .1 .1 .1 .1 .1 .1 .0) flight (a .x) (c .land .result) (c .land .ensures .2) (now (a .node)) (now (a .live)) (c .land .last .1 .1 .1 .1 .1 .0) (c .before .before .before .before .before .hear .last .1 .0) (c .land .last .1 .1 .1 .1 .1 .1 .1 .0) (c .land .last .1 .1 .1 .1 .1 .1 .1 .1 .0) (a .nodes) (a .destination) (a .links)
+          (c .land .ensures .0 (c .before .before .before .before .before .hear .last .1 .0) (less (a .x) flight)
+          ∙ ap (λ (s : State). landed s y (a .told .number))
+          (heard-is net (now (a .live)) (now (a .out)) (now (a .local)) (now (a .remote)) (now (a .mark)) (now (a .turns)) (less (a .x) flight) (countsOf (a .tally)) y
+          (within (c .before .before .before .before .before .before .before .before .before .before .before .before)) (c .before .before .before .before .before .before .before .before .before .before .before .before .before .before .before .pre .0 .links-most) (c .before .before .before .before .before .before .before .before .before .before .before .before .before .before .before .pre .3 .long .out-long) (c .before .before .before .before .before .before .before .before .before .before .before .before .before .before .before .pre .5) (fresh (c .before .before .before .before .before .before .before .before .before .before .before .before)) (c .before .before .before .before .before .hear .last .0) (c .before .before .before .before .before .hear .last .1 .0) (c .before .before .before .before .before .hear .ensures .0) (c .before .before .before .before .before .hear .ensures .1)
+          (took-is net (now (a .live)) ends (now (a .turns)) flight (countsOf (a .tally)) (a .x)))
+          ∙ lands (c .before .before .before .before .before .before .before .before .before .before .before .before) flight e formed (c .before .before .before .before .before .before .before .before .before .if2 .left)),
+      λ flight e l. took-long (c .land .last .1 .1 .1 .1 .1 .1 .0) flight (a .x) (c .land .result) (c .land .ensures .2) (c .land .ensures .1 (less (a .x) flight) (one-less (c .before .before .before .before .before .before .before .before .before .before .before .before) flight e l)),
+      c .land .ensures .3,
+      ap length (c .before .before .before .before .before .hear .ensures .1) ∙ length-set (now (a .remote)) y _ ∙ c .before .before .before .before .before .before .before .before .before .before .before .before .before .before .before .pre .5,
     )
 
 pub deliver-step-spec : {M : Type 1} → statement M
 deliver-step-spec =
     tie.close
     (tie.spec
-    find-requires
+    refusal-requires
     bare-requires
     returns
     other-requires
-    element-copy-out-p
     element-copy-out-q
     element-copy-out-if2
     bare-requires-2
     returns-2
-    mul-n
-    element-copy-out-n
-    sub-last
-    take-out-requires
+    sub-t
     hear-requires
     land-requires
     returns-3)

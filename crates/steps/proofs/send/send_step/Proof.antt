@@ -2,25 +2,44 @@
 use Prim.Native.Nat.{ℕ, _+_, _-_, _*_, _/_, _≤_, _<_}
 use native.Mathlib.Omega.{arith}
 use mathlib.Core.Path.{_≡_, refl, sym, ap, _∙_}
-use mathlib.Core.Bool.{true, false}
-use mathlib.Core.List.{[]}
+use mathlib.Core.Bool.{Bool, true, false}
+use mathlib.Core.List.{List}
 use denote.Ref.{now}
+use borrow.Author.Needs.{needs}
 use borrow.Author.Tests.{not-true, not-false}
 use Rattle.model.specs.declared.Went.the-variants as went
-use Rattle.model.specs.declared.Handled.the-variants as handled
+use Rattle.model.specs.State.{Packet, State}
 use Rattle.model.specs.Departure.{hasLive, hasOut, hasMark, turn}
-use Rattle.model.specs.Outcome.{counted, onward}
+use Rattle.model.specs.Outcome.{counted, gives, leaves, onward}
 use Rattle.arrays.specs.declared.Tally.{Tally}
-use Rattle.steps.specs.declared.tally.Step.{Step}
-use Rattle.arrays.specs.View.{used, packetAt}
-use Rattle.arrays.proofs.Below.{length-tab, used-in}
-use Rattle.steps.specs.Steps.{stateAt, outcomeOf, tallied}
+use Rattle.arrays.specs.View.{endsSeen}
+use Rattle.arrays.proofs.Below.{used-in}
+use Rattle.steps.specs.Steps.{stateWith}
 use Rattle.steps.proofs.Ways.{has-way, no-way, onward-by, onward-turned, turn-finds}
-use Rattle.steps.proofs.Sounds.{remote-free, sound-if}
+use Rattle.steps.proofs.Tallies.{counted-is, done-stays, done-leaves, bare-stays, stays-long, leaves-long}
 use Rattle.steps.proofs.Sends.{out-live, send-no-such, send-arrives, send-strands, send-full, send-goes}
-use borrow.Author.Needs.{needs}
 use Rattle.steps.proofs.send.send_step.Statement.{statement}
 use Rattle.steps.proofs.send.send_step.Tie as tie
+
+-- the state at entry, with some remote bits, packets and counts
+abbrev seen : tie.Start → List Bool → List Packet → Tally → State
+seen c remote flight t =
+    let a = c .args in
+    stateWith (now (a .node)) (now (a .live)) (now (a .out)) (now (a .local)) remote (now (a .mark)) (now (a .turns)) (a .nodes) (a .destination) (a .links) flight t
+
+abbrev ends : tie.Start → State
+ends c = let a = c .args in endsSeen (a .links) (now (a .node)) (now (a .live)) (now (a .out)) (now (a .local)) (now (a .mark))
+
+-- counted by one event
+counts : (c : tie.Start) (remote : List Bool) (flight : List Packet) {t : Tally} (k d s : ℕ)
+    → t ≡ record { flying = k; events = c .args .tally .events + 1; admitted = c .args .tally .admitted + 1; delivered = c .args .tally .delivered + d; lost = c .args .tally .lost + 0; stranded = c .args .tally .stranded + s }
+    → seen c remote flight t ≡ counted (seen c remote flight (c .args .tally)) 1 d 0 s
+counts c remote flight k d s e =
+    let a = c .args in
+    counted-is (now (a .node)) (now (a .live)) (now (a .out)) (now (a .local)) remote (now (a .mark)) (now (a .turns)) (a .nodes) (a .destination) (a .links) flight (a .tally) k 1 d 0 s e
+
+flying-is : {t : Tally} {k e a d l s : ℕ} → t ≡ record { flying = k; events = e; admitted = a; delivered = d; lost = l; stranded = s } → t .flying ≡ k
+flying-is q = ap (λ (t : Tally). t .flying) q
 
 bare-requires : tie.Need-bare-requires
 bare-requires c κs = search needs
@@ -28,65 +47,57 @@ bare-requires c κs = search needs
 returns : tie.Need-returns
 returns c =
     let a = c .before .before .args in (
-      λ remote. ap (λ r. outcomeOf (stateAt (now (a .node)) (now (a .live)) (now (a .out)) (now (a .local)) remote (now (a .mark)) (now (a .turns)) (now (a .number)) (now (a .lane)) (now (a .bit)) (a .nodes) (a .destination) (a .links) (r .tally)) r) (c .bare .ensures)
-          ∙ send-no-such (stateAt (now (a .node)) (now (a .live)) (now (a .out)) (now (a .local)) remote (now (a .mark)) (now (a .turns)) (now (a .number)) (now (a .lane)) (now (a .bit)) (a .nodes) (a .destination) (a .links) (a .tally)) (a .v) (remote-free _ _ _ _ _ (used (2 * a .links) false remote) _ _ _ _ (c .before .before .pre .0)) (c .before .before .pre .1) (c .before .if1 .taken),
+      λ remote flight many formed.
+          bare-stays (now (a .node)) (now (a .live)) (now (a .out)) (now (a .local)) remote (now (a .mark)) (now (a .turns)) (a .nodes) (a .destination) (a .links) flight (c .bare .ensures)
+          ∙ send-no-such (seen (c .before .before) remote flight (a .tally)) (a .v) formed (c .before .before .pre .1) (c .before .if1 .taken),
+      λ flight many. stays-long (now (a .local)) flight (c .bare .ensures) refl many,
       c .before .before .pre .2,
     )
 
 counted-requires : tie.Need-counted-requires
-counted-requires c κs =
-    let a = c .before .before .args in
-    let s = sound-if (now (a .node)) (now (a .live)) (now (a .out)) (now (a .local)) [] (now (a .mark)) (now (a .turns)) (now (a .number)) (now (a .lane)) (now (a .bit)) (a .nodes) (a .destination) (a .links) (a .tally) (c .before .before .pre .0) in
-    (s .fair (c .before .before .pre .1), omega arith, omega arith, omega arith, omega arith)
+counted-requires c κs = (c .before .before .pre .0 .fair (c .before .before .pre .1), omega arith, omega arith, omega arith, omega arith)
 
 done-requires : tie.Need-done-requires
 done-requires c κs = search needs
 
 returns-2 : tie.Need-returns-2
-unfolding counted
 returns-2 c =
     let a = c .before .before .before .before .args in (
-      λ remote. ap (λ r. outcomeOf (stateAt (now (a .node)) (now (a .live)) (now (a .out)) (now (a .local)) remote (now (a .mark)) (now (a .turns)) (now (a .number)) (now (a .lane)) (now (a .bit)) (a .nodes) (a .destination) (a .links) (r .tally)) r) (c .done .ensures ∙ ap (λ t. record { tally = t; answer = 0; handled = handled.Packet (a .tally .admitted); went = went.Delivered }) (c .before .counted .ensures))
-          ∙ send-arrives (stateAt (now (a .node)) (now (a .live)) (now (a .out)) (now (a .local)) remote (now (a .mark)) (now (a .turns)) (now (a .number)) (now (a .lane)) (now (a .bit)) (a .nodes) (a .destination) (a .links) (a .tally)) (a .v) (remote-free _ _ _ _ _ (used (2 * a .links) false remote) _ _ _ _ (c .before .before .before .before .pre .0)) (c .before .before .before .before .pre .1) (c .before .before .before .if1 .left) (c .before .before .if2 .taken),
+      λ remote flight many formed.
+          done-stays (now (a .node)) (now (a .live)) (now (a .out)) (now (a .local)) remote (now (a .mark)) (now (a .turns)) (a .nodes) (a .destination) (a .links) flight (c .done .ensures) refl
+          ∙ ap (λ (s : State). gives s (a .tally .admitted) went.Delivered) (counts (c .before .before .before .before) remote flight (a .tally .flying) 1 0 (c .before .counted .ensures))
+          ∙ send-arrives (seen (c .before .before .before .before) remote flight (a .tally)) (a .v) formed (c .before .before .before .before .pre .1) (c .before .before .before .if1 .left) (c .before .before .if2 .taken),
+      λ flight many. stays-long (now (a .local)) flight (c .done .ensures) refl (many ∙ sym (flying-is (c .before .counted .ensures))),
       c .before .before .before .before .pre .2,
     )
 
 way-requires : tie.Need-way-requires
-way-requires c κs =
-    let a = c .before .before .before .args in
-    let s = sound-if (now (a .node)) (now (a .live)) (now (a .out)) (now (a .local)) [] (now (a .mark)) (now (a .turns)) (now (a .number)) (now (a .lane)) (now (a .bit)) (a .nodes) (a .destination) (a .links) (a .tally) (c .before .before .before .pre .0) in
-    (s .sizes .links-most, omega (arith, s .sizes .nodes-most), λ e. c .before .before .before .pre .3 e (a .v) (omega (arith, s .sizes .nodes-most)))
+way-requires c κs = (c .before .before .before .pre .0 .links-most, omega (arith, c .before .before .before .pre .0 .nodes-most), λ e. c .before .before .before .pre .3 e (c .before .before .before .args .v) (omega (arith, c .before .before .before .pre .0 .nodes-most)))
 
 mul-if3 : tie.Need-mul-if3
-mul-if3 c =
-    let a = c .before .before .before .before .args in
-    let s = sound-if (now (a .node)) (now (a .live)) (now (a .out)) (now (a .local)) [] (now (a .mark)) (now (a .turns)) (now (a .number)) (now (a .lane)) (now (a .bit)) (a .nodes) (a .destination) (a .links) (a .tally) (c .before .before .before .before .pre .0) in record { fits = omega (arith, s .sizes .links-most) }
+mul-if3 c = let h : c .before .before .before .before .args .links ≤ 256 = c .before .before .before .before .pre .0 .links-most in search needs
 
 cast-held : tie.Need-cast-held
-cast-held c =
-    let a = c .before .before .before .before .before .args in
-    let s = sound-if (now (a .node)) (now (a .live)) (now (a .out)) (now (a .local)) [] (now (a .mark)) (now (a .turns)) (now (a .number)) (now (a .lane)) (now (a .bit)) (a .nodes) (a .destination) (a .links) (a .tally) (c .before .before .before .before .before .pre .0) in record { fits = omega (arith, s .sizes .nodes-most, c .before .before .before .before .if1 .left) }
+cast-held c = let h : c .before .before .before .before .before .args .nodes ≤ 64 = c .before .before .before .before .before .pre .0 .nodes-most in search needs
 
 held-requires : tie.Need-held-requires
-held-requires c κs =
-    let a = c .before .before .before .before .before .args in
-    (sound-if (now (a .node)) (now (a .live)) (now (a .out)) (now (a .local)) [] (now (a .mark)) (now (a .turns)) (now (a .number)) (now (a .lane)) (now (a .bit)) (a .nodes) (a .destination) (a .links) (a .tally) (c .before .before .before .before .before .pre .0)) .sizes .links-most
+held-requires c κs = c .before .before .before .before .before .pre .0 .links-most
 
 counted-requires-2 : tie.Need-counted-requires-2
-counted-requires-2 c κs =
-    let a = c .before .before .before .before .before .before .before .args in
-    let s = sound-if (now (a .node)) (now (a .live)) (now (a .out)) (now (a .local)) [] (now (a .mark)) (now (a .turns)) (now (a .number)) (now (a .lane)) (now (a .bit)) (a .nodes) (a .destination) (a .links) (a .tally) (c .before .before .before .before .before .before .before .pre .0) in
-    (s .fair (c .before .before .before .before .before .before .before .pre .1), omega arith, omega arith, omega arith, omega arith)
+counted-requires-2 c κs = (c .before .before .before .before .before .before .before .pre .0 .fair (c .before .before .before .before .before .before .before .pre .1), omega arith, omega arith, omega arith, omega arith)
 
 done-requires-2 : tie.Need-done-requires-2
 done-requires-2 c κs = search needs
 
 returns-3 : tie.Need-returns-3
-unfolding counted hasLive
+unfolding hasLive
 returns-3 c =
     let a = c .before .before .before .before .before .before .before .before .before .args in (
-      λ remote. ap (λ r. outcomeOf (stateAt (now (a .node)) (now (a .live)) (now (a .out)) (now (a .local)) remote (now (a .mark)) (now (a .turns)) (now (a .number)) (now (a .lane)) (now (a .bit)) (a .nodes) (a .destination) (a .links) (r .tally)) r) (c .done2 .ensures ∙ ap (λ t. record { tally = t; answer = 0; handled = handled.Packet (a .tally .admitted); went = went.Stranded }) (c .before .counted2 .ensures))
-          ∙ send-strands (stateAt (now (a .node)) (now (a .live)) (now (a .out)) (now (a .local)) remote (now (a .mark)) (now (a .turns)) (now (a .number)) (now (a .lane)) (now (a .bit)) (a .nodes) (a .destination) (a .links) (a .tally)) (a .v) (remote-free _ _ _ _ _ (used (2 * a .links) false remote) _ _ _ _ (c .before .before .before .before .before .before .before .before .before .pre .0)) (c .before .before .before .before .before .before .before .before .before .pre .1) (c .before .before .before .before .before .before .before .before .if1 .left) (c .before .before .before .before .before .before .before .if2 .left) (sym (c .before .before .before .held .ensures) ∙ not-true _ (c .before .before .if4 .taken)),
+      λ remote flight many formed.
+          done-stays (now (a .node)) (now (a .live)) (now (a .out)) (now (a .local)) remote (now (a .mark)) (now (a .turns)) (a .nodes) (a .destination) (a .links) flight (c .done2 .ensures) refl
+          ∙ ap (λ (s : State). gives s (a .tally .admitted) went.Stranded) (counts (c .before .before .before .before .before .before .before .before .before) remote flight (a .tally .flying) 0 1 (c .before .counted2 .ensures))
+          ∙ send-strands (seen (c .before .before .before .before .before .before .before .before .before) remote flight (a .tally)) (a .v) formed (c .before .before .before .before .before .before .before .before .before .pre .1) (c .before .before .before .before .before .before .before .before .if1 .left) (c .before .before .before .before .before .before .before .if2 .left) (sym (c .before .before .before .held .ensures) ∙ not-true _ (c .before .before .if4 .taken)),
+      λ flight many. stays-long (now (a .local)) flight (c .done2 .ensures) refl (many ∙ sym (flying-is (c .before .counted2 .ensures))),
       c .before .before .before .before .before .before .before .before .before .pre .2,
     )
 
@@ -97,85 +108,87 @@ returns-4 : tie.Need-returns-4
 unfolding hasLive
 returns-4 c =
     let a = c .before .before .before .before .before .before .before .before .before .args in (
-      λ remote. ap (λ r. outcomeOf (stateAt (now (a .node)) (now (a .live)) (now (a .out)) (now (a .local)) remote (now (a .mark)) (now (a .turns)) (now (a .number)) (now (a .lane)) (now (a .bit)) (a .nodes) (a .destination) (a .links) (r .tally)) r) (c .bare2 .ensures)
-          ∙ send-full (stateAt (now (a .node)) (now (a .live)) (now (a .out)) (now (a .local)) remote (now (a .mark)) (now (a .turns)) (now (a .number)) (now (a .lane)) (now (a .bit)) (a .nodes) (a .destination) (a .links) (a .tally)) (a .v) (remote-free _ _ _ _ _ (used (2 * a .links) false remote) _ _ _ _ (c .before .before .before .before .before .before .before .before .before .pre .0)) (c .before .before .before .before .before .before .before .before .before .pre .1) (c .before .before .before .before .before .before .before .before .if1 .left) (c .before .before .before .before .before .before .before .if2 .left) (sym (c .before .before .before .held .ensures) ∙ not-false _ (c .before .before .if4 .left)) (omega (arith, c .before .if5 .taken, length-tab (packetAt (now (a .number)) (now (a .lane)) (now (a .bit))) (a .tally .flying))),
+      λ remote flight many formed.
+          bare-stays (now (a .node)) (now (a .live)) (now (a .out)) (now (a .local)) remote (now (a .mark)) (now (a .turns)) (a .nodes) (a .destination) (a .links) flight (c .bare2 .ensures)
+          ∙ send-full (seen (c .before .before .before .before .before .before .before .before .before) remote flight (a .tally)) (a .v) formed (c .before .before .before .before .before .before .before .before .before .pre .1) (c .before .before .before .before .before .before .before .before .if1 .left) (c .before .before .before .before .before .before .before .if2 .left) (sym (c .before .before .before .held .ensures) ∙ not-false _ (c .before .before .if4 .left)) (omega (arith, many, c .before .if5 .taken)),
+      λ flight many. stays-long (now (a .local)) flight (c .bare2 .ensures) refl many,
       c .before .before .before .before .before .before .before .before .before .pre .2,
     )
 
-counted-requires-3 : tie.Need-counted-requires-3
-counted-requires-3 c κs =
-    let a = c .before .before .before .before .before .before .before .before .args in
-    let s = sound-if (now (a .node)) (now (a .live)) (now (a .out)) (now (a .local)) [] (now (a .mark)) (now (a .turns)) (now (a .number)) (now (a .lane)) (now (a .bit)) (a .nodes) (a .destination) (a .links) (a .tally) (c .before .before .before .before .before .before .before .before .pre .0) in
-    (s .fair (c .before .before .before .before .before .before .before .before .pre .1), omega arith, omega arith, omega arith, omega arith)
+add-counted : tie.Need-add-counted
+add-counted c = search needs
 
-turn-and-leave-requires : tie.Need-turn-and-leave-requires
+counted-requires-3 : tie.Need-counted-requires-3
+counted-requires-3 c κs = (c .before .before .before .before .before .before .before .before .pre .0 .fair (c .before .before .before .before .before .before .before .before .pre .1), omega arith, omega arith, omega arith, omega arith)
+
+turned-way-requires : tie.Need-turned-way-requires
 unfolding hasLive hasOut
-turn-and-leave-requires c κs =
-    let a = c .before .before .before .before .before .before .before .before .before .before .before .before .before .before .before .before .args in
-    let s = sound-if (now (a .node)) (now (a .live)) (now (a .out)) (now (a .local)) [] (now (a .mark)) (now (a .turns)) (now (a .number)) (now (a .lane)) (now (a .bit)) (a .nodes) (a .destination) (a .links) (a .tally) (c .before .before .before .before .before .before .before .before .before .before .before .before .before .before .before .before .pre .0) in
-    let t = c .before .before .before .before .before .before .before .counted3 .result in
-    let same = ap (λ (t : Tally). t .flying) (c .before .before .before .before .before .before .before .counted3 .ensures) in (
-      s .sizes .links-most,
-      s .sizes .nodes-most,
-      c .before .before .before .before .before .before .before .before .before .before .before .before .before .before .before .if1 .left,
-      omega (arith, s .turned (a .v) (c .before .before .before .before .before .before .before .before .before .before .before .before .before .before .before .if1 .left), c .before .before .before .before .before .before .before .before .before .before .before .before .before .before .before .before .pre .1),
-      omega (arith, same, c .before .before .before .before .before .before .before .before .if5 .left),
-      turn-finds (stateAt (now (a .node)) (now (a .live)) (now (a .out)) (now (a .local)) [] (now (a .mark)) (now (a .turns)) (now (a .number)) (now (a .lane)) (now (a .bit)) (a .nodes) 0 (a .links) t) (a .v)
-          (λ x h m. used-in (a .links) false (now (a .live)) (x / 2) (omega (arith, h)) ∙ s .marks x h (sym (used-in (2 * a .links) false (now (a .mark)) x h) ∙ m))
-          (sym (c .before .before .before .before .before .before .before .before .before .before .held .ensures) ∙ not-false _ (c .before .before .before .before .before .before .before .before .before .if4 .left))
-          (no-way (stateAt (now (a .node)) (now (a .live)) (now (a .out)) (now (a .local)) [] (now (a .mark)) (now (a .turns)) (now (a .number)) (now (a .lane)) (now (a .bit)) (a .nodes) 0 (a .links) t) (a .v) (omega (arith, c .before .before .before .before .before .before .before .before .before .before .before .before .way .ensures, c .before .before .before .before .before .before .before .before .before .before .before .if3 .taken))),
-      c .before .before .before .before .before .before .before .before .before .before .before .before .before .before .before .before .pre .2,
-      c .before .before .before .before .before .before .before .before .before .before .before .before .before .before .before .before .pre .3,
+turned-way-requires c κs =
+    let a = c .before .before .before .before .before .before .before .before .before .before .before .before .before .args in (
+      c .before .before .before .before .before .before .before .before .before .before .before .before .before .pre .0 .links-most,
+      c .before .before .before .before .before .before .before .before .before .before .before .before .before .pre .0 .nodes-most,
+      c .before .before .before .before .before .before .before .before .before .before .before .before .if1 .left,
+      omega (arith, c .before .before .before .before .before .before .before .before .before .before .before .before .before .pre .0 .turned (a .v) (c .before .before .before .before .before .before .before .before .before .before .before .before .if1 .left), c .before .before .before .before .before .before .before .before .before .before .before .before .before .pre .1),
+      turn-finds (ends (c .before .before .before .before .before .before .before .before .before .before .before .before .before)) (a .v)
+          (λ x h m. used-in (a .links) false (now (a .live)) (x / 2) (omega arith) ∙ c .before .before .before .before .before .before .before .before .before .before .before .before .before .pre .0 .marks x h (sym (used-in (2 * a .links) false (now (a .mark)) x h) ∙ m))
+          (sym (c .before .before .before .before .before .before .before .held .ensures) ∙ not-false _ (c .before .before .before .before .before .before .if4 .left)) (no-way (ends (c .before .before .before .before .before .before .before .before .before .before .before .before .before)) (a .v) (omega (arith, c .before .before .before .before .before .before .before .before .before .way .ensures, c .before .before .before .before .before .before .before .before .if3 .taken))),
+      c .before .before .before .before .before .before .before .before .before .before .before .before .before .pre .2,
+      c .before .before .before .before .before .before .before .before .before .before .before .before .before .pre .3,
     )
 
+done-requires-3 : tie.Need-done-requires-3
+done-requires-3 c κs = search needs
+
 returns-5 : tie.Need-returns-5
-unfolding counted hasLive
+unfolding hasLive hasOut
 returns-5 c =
-    let a = c .before .before .before .before .before .before .before .before .before .before .before .before .before .before .before .before .before .args in
-    let t = c .before .before .before .before .before .before .before .before .counted3 .result in (
-      λ remote.
-          c .turn-and-leave .ensures .0 remote (a .destination)
-          ∙ onward-turned (stateAt (now (a .node)) (now (a .live)) (now (a .out)) (now (a .local)) remote (now (a .mark)) (now (a .turns)) (now (a .number)) (now (a .lane)) (now (a .bit)) (a .nodes) (a .destination) (a .links) t) (a .v) (a .tally .admitted) (no-way (stateAt (now (a .node)) (now (a .live)) (now (a .out)) (now (a .local)) remote (now (a .mark)) (now (a .turns)) (now (a .number)) (now (a .lane)) (now (a .bit)) (a .nodes) (a .destination) (a .links) t) (a .v) (omega (arith, c .before .before .before .before .before .before .before .before .before .before .before .before .before .way .ensures, c .before .before .before .before .before .before .before .before .before .before .before .before .if3 .taken)))
-          ∙ ap (λ t. onward (stateAt (now (a .node)) (now (a .live)) (now (a .out)) (now (a .local)) remote (now (a .mark)) (now (a .turns)) (now (a .number)) (now (a .lane)) (now (a .bit)) (a .nodes) (a .destination) (a .links) t) (a .v) (a .tally .admitted)) (c .before .before .before .before .before .before .before .before .counted3 .ensures)
-          ∙ send-goes (stateAt (now (a .node)) (now (a .live)) (now (a .out)) (now (a .local)) remote (now (a .mark)) (now (a .turns)) (now (a .number)) (now (a .lane)) (now (a .bit)) (a .nodes) (a .destination) (a .links) (a .tally)) (a .v) (remote-free _ _ _ _ _ (used (2 * a .links) false remote) _ _ _ _ (c .before .before .before .before .before .before .before .before .before .before .before .before .before .before .before .before .before .pre .0)) (c .before .before .before .before .before .before .before .before .before .before .before .before .before .before .before .before .before .pre .1) (c .before .before .before .before .before .before .before .before .before .before .before .before .before .before .before .before .if1 .left) (c .before .before .before .before .before .before .before .before .before .before .before .before .before .before .before .if2 .left) (sym (c .before .before .before .before .before .before .before .before .before .before .before .held .ensures) ∙ not-false _ (c .before .before .before .before .before .before .before .before .before .before .if4 .left)) (omega (arith, length-tab (packetAt (now (a .number)) (now (a .lane)) (now (a .bit))) (a .tally .flying), c .before .before .before .before .before .before .before .before .before .if5 .left)),
-      c .turn-and-leave .ensures .1,
+    let a = c .before .before .before .before .before .before .before .before .before .before .before .before .before .before .before .args in
+    let t = c .before .before .before .before .before .before .counted3 .result in (
+      λ remote flight many formed.
+          done-leaves (now (a .node)) (now (a .live)) _ _ remote _ _ (a .nodes) (a .destination) (a .links) flight (c .done3 .ensures) (c .before .turned-way .ensures .1)
+          ∙ c .before .turned-way .ensures .0 remote (a .destination) flight t (a .tally .admitted)
+          ∙ onward-turned (seen (c .before .before .before .before .before .before .before .before .before .before .before .before .before .before .before) remote flight t) (a .v) (a .tally .admitted) (no-way (seen (c .before .before .before .before .before .before .before .before .before .before .before .before .before .before .before) remote flight t) (a .v) (omega (arith, c .before .before .before .before .before .before .before .before .before .before .before .way .ensures, c .before .before .before .before .before .before .before .before .before .before .if3 .taken)))
+          ∙ ap (λ (s : State). onward s (a .v) (a .tally .admitted)) (counts (c .before .before .before .before .before .before .before .before .before .before .before .before .before .before .before) remote flight (a .tally .flying + 1) 0 0 (c .before .before .before .before .before .before .counted3 .ensures))
+          ∙ send-goes (seen (c .before .before .before .before .before .before .before .before .before .before .before .before .before .before .before) remote flight (a .tally)) (a .v) formed (c .before .before .before .before .before .before .before .before .before .before .before .before .before .before .before .pre .1) (c .before .before .before .before .before .before .before .before .before .before .before .before .before .before .if1 .left) (c .before .before .before .before .before .before .before .before .before .before .before .before .before .if2 .left) (sym (c .before .before .before .before .before .before .before .before .before .held .ensures) ∙ not-false _ (c .before .before .before .before .before .before .before .before .if4 .left)) (omega (arith, many, c .before .before .before .before .before .before .before .if5 .left)),
+      λ flight many. leaves-long _ flight (c .done3 .ensures) (flying-is (c .before .before .before .before .before .before .counted3 .ensures) ∙ ap (λ n. n + 1) (sym many)),
+      c .before .turned-way .ensures .2,
     )
 
 bare-requires-3 : tie.Need-bare-requires-3
 bare-requires-3 c κs = search needs
 
 returns-6 : tie.Need-returns-6
+unfolding hasOut
 returns-6 c =
     let a = c .before .before .before .before .before .before .before .args in (
-      λ remote. ap (λ r. outcomeOf (stateAt (now (a .node)) (now (a .live)) (now (a .out)) (now (a .local)) remote (now (a .mark)) (now (a .turns)) (now (a .number)) (now (a .lane)) (now (a .bit)) (a .nodes) (a .destination) (a .links) (r .tally)) r) (c .bare3 .ensures)
-          ∙ send-full (stateAt (now (a .node)) (now (a .live)) (now (a .out)) (now (a .local)) remote (now (a .mark)) (now (a .turns)) (now (a .number)) (now (a .lane)) (now (a .bit)) (a .nodes) (a .destination) (a .links) (a .tally)) (a .v) (remote-free _ _ _ _ _ (used (2 * a .links) false remote) _ _ _ _ (c .before .before .before .before .before .before .before .pre .0)) (c .before .before .before .before .before .before .before .pre .1) (c .before .before .before .before .before .before .if1 .left) (c .before .before .before .before .before .if2 .left) (out-live (stateAt (now (a .node)) (now (a .live)) (now (a .out)) (now (a .local)) remote (now (a .mark)) (now (a .turns)) (now (a .number)) (now (a .lane)) (now (a .bit)) (a .nodes) (a .destination) (a .links) (a .tally)) (a .v) (has-way (stateAt (now (a .node)) (now (a .live)) (now (a .out)) (now (a .local)) remote (now (a .mark)) (now (a .turns)) (now (a .number)) (now (a .lane)) (now (a .bit)) (a .nodes) (a .destination) (a .links) (a .tally)) (a .v) (omega (arith, c .before .before .before .way .ensures, c .before .before .if3 .left)))) (omega (arith, c .before .if6 .taken, length-tab (packetAt (now (a .number)) (now (a .lane)) (now (a .bit))) (a .tally .flying))),
+      λ remote flight many formed.
+          bare-stays (now (a .node)) (now (a .live)) (now (a .out)) (now (a .local)) remote (now (a .mark)) (now (a .turns)) (a .nodes) (a .destination) (a .links) flight (c .bare3 .ensures)
+          ∙ send-full (seen (c .before .before .before .before .before .before .before) remote flight (a .tally)) (a .v) formed (c .before .before .before .before .before .before .before .pre .1) (c .before .before .before .before .before .before .if1 .left) (c .before .before .before .before .before .if2 .left) (out-live _ (a .v) (has-way (seen (c .before .before .before .before .before .before .before) remote flight (a .tally)) (a .v) (omega (arith, c .before .before .before .way .ensures, c .before .before .if3 .left)))) (omega (arith, many, c .before .if6 .taken)),
+      λ flight many. stays-long (now (a .local)) flight (c .bare3 .ensures) refl many,
       c .before .before .before .before .before .before .before .pre .2,
     )
 
-counted-requires-4 : tie.Need-counted-requires-4
-counted-requires-4 c κs =
-    let a = c .before .before .before .before .before .before .before .before .before .before .args in
-    let s = sound-if (now (a .node)) (now (a .live)) (now (a .out)) (now (a .local)) [] (now (a .mark)) (now (a .turns)) (now (a .number)) (now (a .lane)) (now (a .bit)) (a .nodes) (a .destination) (a .links) (a .tally) (c .before .before .before .before .before .before .before .before .before .before .pre .0) in
-    (s .fair (c .before .before .before .before .before .before .before .before .before .before .pre .1), omega arith, omega arith, omega arith, omega arith)
+add-counted-2 : tie.Need-add-counted-2
+add-counted-2 c = search needs
 
-leave-requires : tie.Need-leave-requires
-leave-requires c κs =
-    let a = c .before .before .before .before .before .before .before .before .before .before .before .args in
-    let s = sound-if (now (a .node)) (now (a .live)) (now (a .out)) (now (a .local)) [] (now (a .mark)) (now (a .turns)) (now (a .number)) (now (a .lane)) (now (a .bit)) (a .nodes) (a .destination) (a .links) (a .tally) (c .before .before .before .before .before .before .before .before .before .before .before .pre .0) in
-    let same = ap (λ (t : Tally). t .flying) (c .counted4 .ensures) in
-    (s .sizes .links-most, omega arith, omega (arith, same, c .before .before .before .before .before .if6 .left), c .before .before .before .before .before .before .before .before .before .before .before .pre .2 .room)
+counted-requires-4 : tie.Need-counted-requires-4
+counted-requires-4 c κs = (c .before .before .before .before .before .before .pre .0 .fair (c .before .before .before .before .before .before .pre .1), omega arith, omega arith, omega arith, omega arith)
+
+done-requires-4 : tie.Need-done-requires-4
+done-requires-4 c κs = search needs
 
 returns-7 : tie.Need-returns-7
-unfolding counted
+unfolding hasOut
 returns-7 c =
-    let a = c .before .before .before .before .before .before .before .before .before .before .before .before .args in
+    let a = c .before .before .before .before .before .before .before .before .args in
     let t = c .before .counted4 .result in (
-      λ remote.
-          c .leave .ensures .0 (now (a .node)) (now (a .live)) (now (a .out)) remote (now (a .mark)) (now (a .turns)) (a .nodes) (a .destination)
-          ∙ onward-by (stateAt (now (a .node)) (now (a .live)) (now (a .out)) (now (a .local)) remote (now (a .mark)) (now (a .turns)) (now (a .number)) (now (a .lane)) (now (a .bit)) (a .nodes) (a .destination) (a .links) t) (a .v) _ (a .tally .admitted) (c .before .before .before .before .before .before .before .before .way .ensures) (omega arith)
-          ∙ ap (λ t. onward (stateAt (now (a .node)) (now (a .live)) (now (a .out)) (now (a .local)) remote (now (a .mark)) (now (a .turns)) (now (a .number)) (now (a .lane)) (now (a .bit)) (a .nodes) (a .destination) (a .links) t) (a .v) (a .tally .admitted)) (c .before .counted4 .ensures)
-          ∙ send-goes (stateAt (now (a .node)) (now (a .live)) (now (a .out)) (now (a .local)) remote (now (a .mark)) (now (a .turns)) (now (a .number)) (now (a .lane)) (now (a .bit)) (a .nodes) (a .destination) (a .links) (a .tally)) (a .v) (remote-free _ _ _ _ _ (used (2 * a .links) false remote) _ _ _ _ (c .before .before .before .before .before .before .before .before .before .before .before .before .pre .0)) (c .before .before .before .before .before .before .before .before .before .before .before .before .pre .1) (c .before .before .before .before .before .before .before .before .before .before .before .if1 .left) (c .before .before .before .before .before .before .before .before .before .before .if2 .left) (out-live (stateAt (now (a .node)) (now (a .live)) (now (a .out)) (now (a .local)) remote (now (a .mark)) (now (a .turns)) (now (a .number)) (now (a .lane)) (now (a .bit)) (a .nodes) (a .destination) (a .links) (a .tally)) (a .v) (has-way (stateAt (now (a .node)) (now (a .live)) (now (a .out)) (now (a .local)) remote (now (a .mark)) (now (a .turns)) (now (a .number)) (now (a .lane)) (now (a .bit)) (a .nodes) (a .destination) (a .links) (a .tally)) (a .v) (omega (arith, c .before .before .before .before .before .before .before .before .way .ensures, c .before .before .before .before .before .before .before .if3 .left)))) (omega (arith, length-tab (packetAt (now (a .number)) (now (a .lane)) (now (a .bit))) (a .tally .flying), c .before .before .before .before .before .before .if6 .left)),
-      record { long = c .before .before .before .before .before .before .before .before .before .before .before .before .pre .2 .long; turns-long = c .before .before .before .before .before .before .before .before .before .before .before .before .pre .2 .turns-long; room = c .leave .ensures .1 },
+      λ remote flight many formed.
+          done-leaves (now (a .node)) (now (a .live)) (now (a .out)) (now (a .local)) remote (now (a .mark)) (now (a .turns)) (a .nodes) (a .destination) (a .links) flight (c .done4 .ensures) (c .before .before .before .if3 .left)
+          ∙ onward-by (seen (c .before .before .before .before .before .before .before .before) remote flight t) (a .v) _ (a .tally .admitted) (c .before .before .before .before .way .ensures) (c .before .before .before .if3 .left)
+          ∙ ap (λ (s : State). onward s (a .v) (a .tally .admitted)) (counts (c .before .before .before .before .before .before .before .before) remote flight (a .tally .flying + 1) 0 0 (c .before .counted4 .ensures))
+          ∙ send-goes (seen (c .before .before .before .before .before .before .before .before) remote flight (a .tally)) (a .v) formed (c .before .before .before .before .before .before .before .before .pre .1) (c .before .before .before .before .before .before .before .if1 .left) (c .before .before .before .before .before .before .if2 .left) (out-live _ (a .v) (has-way (seen (c .before .before .before .before .before .before .before .before) remote flight (a .tally)) (a .v) (omega (arith, c .before .before .before .before .way .ensures, c .before .before .before .if3 .left)))) (omega (arith, many, c .before .before .if6 .left)),
+      λ flight many. leaves-long (now (a .local)) flight (c .done4 .ensures) (flying-is (c .before .counted4 .ensures) ∙ ap (λ n. n + 1) (sym many)),
+      c .before .before .before .before .before .before .before .before .pre .2,
     )
 
 pub send-step-spec : {M : Type 1} → statement M
@@ -196,11 +209,14 @@ send-step-spec =
     returns-3
     bare-requires-2
     returns-4
+    add-counted
     counted-requires-3
-    turn-and-leave-requires
+    turned-way-requires
+    done-requires-3
     returns-5
     bare-requires-3
     returns-6
+    add-counted-2
     counted-requires-4
-    leave-requires
+    done-requires-4
     returns-7)

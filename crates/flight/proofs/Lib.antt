@@ -1,0 +1,2 @@
+pub mod Queuing
+pub mod Listing

@@ -1,0 +1,90 @@
+-- The packet is pushed, or nothing moves. Assumes nothing.
+use Prim.Native.Nat.{ℕ}
+use native.Mathlib.Omega.{arith}
+use mathlib.Core.Path.{_≡_}
+use mathlib.Core.Logic.{inl, inr}
+use mathlib.Core.List.{[], _∷_}
+use types.Run.{OneOf}
+use denote.Enum.Declared.{tagOf}
+use denote.Ref.{now}
+use Rattle.model.specs.declared.Went.{Went}
+use Rattle.model.specs.declared.Went.the-variants as went
+use Rattle.model.proofs.Went.{the-type}
+use Rattle.queues.specs.Queue.{flown}
+use Rattle.flight.proofs.Queuing.{passed-lane, passed-other, passed-nothing}
+use borrow.Author.Needs.{needs}
+use Rattle.flight.proofs.queued.pass_on.Statement.{statement}
+use Rattle.flight.proofs.queued.pass_on.Tie as tie
+
+-- the other arm's keys name no lane
+no-lane : (w : Went) → OneOf (1 ∷ 2 ∷ 3 ∷ 4 ∷ []) (tagOf the-type w) → (x : ℕ) → w ≡ went.Lane x → ⊥
+no-lane w keys x e = elim (rw e at keys) [
+  | inl z ↦ omega (arith, z)
+  | inr ks ↦ elim ks [ inl z ↦ omega (arith, z) | inr ks ↦ elim ks [ inl z ↦ omega (arith, z) | inr z ↦ omega (arith, z) ] ]
+]
+
+enum-known-handled : tie.Need-enum-known-handled
+enum-known-handled c = search needs
+
+enum-known-went : tie.Need-enum-known-went
+enum-known-went c = search needs
+
+element-copy-out-b : tie.Need-element-copy-out-b
+element-copy-out-b c =
+    c .before .before .before .before .before .before .pre .1 _ (c .before .went .given .1)
+
+push-requires : tie.Need-push-requires
+push-requires c κs =
+    let p = c .before .before .before .before .before .before .before .before .before .before .before .before .before .pre in
+    (p .0, p .1 _ (c .before .before .before .before .before .before .before .before .went .given .1), p .2, p .3)
+
+add-result : tie.Need-add-result
+add-result c = search needs
+
+enum-told : tie.Need-enum-told
+enum-told c = search needs
+
+returns : tie.Need-returns
+returns c =
+    let a = c .before .before .before .before .before .before .before .before .before .before .before .before .before .before .args in
+    let e = c .push .ensures in (
+      passed-lane (now (a .local)) (flown (now (a .number)) (now (a .lane)) (now (a .bit)) (a .used)) (a .handled) (a .went) _ _
+          (c .before .before .before .before .before .before .before .before .before .before .before .before .handled .given .1)
+          (c .before .before .before .before .before .before .before .before .before .went .given .1) _ (e .0),
+      e .1,
+      e .2,
+    )
+
+returns-2 : tie.Need-returns-2
+returns-2 c =
+    let b = c .before .before .before .before in
+    let a = b .args in (
+      passed-other (now (a .local)) (flown (now (a .number)) (now (a .lane)) (now (a .bit)) (a .used)) (a .handled) (a .went)
+          (no-lane (a .went) (c .match2 .keys2)),
+      b .pre .2,
+      b .pre .3,
+    )
+
+returns-3 : tie.Need-returns-3
+returns-3 c =
+    let b = c .before .before in
+    let a = b .args in (
+      passed-nothing (now (a .local)) (flown (now (a .number)) (now (a .lane)) (now (a .bit)) (a .used)) (a .handled) (a .went)
+          (c .enum-told .given .1),
+      b .pre .2,
+      b .pre .3,
+    )
+
+pub pass-on-spec : {M : Type 1} → statement M
+pass-on-spec =
+    tie.close
+    (tie.spec
+    enum-known-handled
+    enum-known-went
+    element-copy-out-b
+    push-requires
+    add-result
+    enum-told
+    returns
+    returns-2
+    returns-3)
