@@ -1,18 +1,23 @@
 -- The tests at an end in use, as the arrays have them. Assumes nothing.
-use Prim.Native.Nat.{ℕ, suc, _+_, _*_, _/_, _≤_, _<_}
+use Prim.Native.Nat.{ℕ, _+_, _-_, _*_, _/_, _≤_, _<_}
 use native.Mathlib.Omega.{arith}
-use mathlib.Core.Path.{_≡_, refl, sym, ap, _∙_}
-use mathlib.Core.Bool.{Bool, true, false, cond, _&&_, _||_}
+use mathlib.Core.Path.{_≡_, refl, sym, _∙_}
+use mathlib.Core.Bool.{Bool, true, false, _&&_}
 use mathlib.Core.List.{List, []}
-use lib.Dec.{ltb, eqb}
+use lib.Dec.{eqb}
 use lib.ListN.{getD}
-use borrow.Author.Tests.{lt-ltb, le-ltb}
 use Rattle.model.specs.State.{State}
-use Rattle.model.specs.Below.{first}
-use Rattle.model.specs.Departure.{liveAt, outAt, markAt, outLink, outEnd}
+use Rattle.model.specs.Below.{any, first}
+use Rattle.model.proofs.Below.{any-false}
+use Rattle.model.specs.Departure.{liveAt, outAt, markAt}
 use Rattle.arrays.specs.View.{endsSeen}
 use Rattle.arrays.proofs.Below.{used-in}
-use Rattle.moves.proofs.Searches.{first-by-links}
+use Rattle.moves.proofs.Searches.{first-start, first-yes, first-no, first-skip}
+
+between : (a b c : Bool) → (a && c) ≡ false → (a && b && c) ≡ false
+between true true c e = e
+between true false c e = refl
+between false b c e = refl
 
 module _ (links : ℕ) (node : List ℕ) (live out local mark : List Bool) (v : ℕ) where
   abbrev S : State
@@ -41,33 +46,40 @@ module _ (links : ℕ) (node : List ℕ) (live out local mark : List Bool) (v : 
         let half : (2 * l + 1) / 2 ≡ l = omega arith in
         rw (half, used-in (2 * links) 0 node (2 * l + 1) (omega arith), used-in links false live l h, used-in (2 * links) false out (2 * l + 1) (omega arith))
 
-    pub link-is : (eqb (getD node (2 * l) 0) v && getD live l false && getD out (2 * l) false
-        || eqb (getD node (2 * l + 1) 0) v && getD live l false && getD out (2 * l + 1) false)
-        ≡ outLink S v l
-    link-is = rw (first-end-is, second-end-is)
+    abbrev code₁ : Bool
+    code₁ = eqb (getD node (2 * l) 0) v && getD live l false && getD out (2 * l) false
 
-  -- the way out by ends, from the lowest link
-  by-links : first (outAt S v) 0 (2 * links)
-      ≡ cond (ltb (first (outLink S v) 0 links) (0 + links)) (outEnd S v (first (outLink S v) 0 links)) (2 * (0 + links))
-  by-links = first-by-links (outAt S v) links 0
+    abbrev code₂ : Bool
+    code₂ = eqb (getD node (2 * l + 1) 0) v && getD live l false && getD out (2 * l + 1) false
 
-  pub way-none : first (outLink S v) 0 links ≡ links → 2 * links ≡ first (outAt S v) 0 (2 * links)
-  way-none e = sym (by-links ∙ rw (e, le-ltb links (0 + links) (omega arith)) (omega arith))
+    -- the search at link l: it ends at one of the two ends, or goes on
+    abbrev left : ℕ → ℕ
+    left x = first (outAt S v) x (2 * links - x)
 
-  pub way-some : (l : ℕ) → l ≡ first (outLink S v) 0 links → l < links → outEnd S v l ≡ first (outAt S v) 0 (2 * links)
-  way-some l e h = sym (by-links ∙ rw (← e, lt-ltb l (0 + links) (omega arith)))
+    pub ends-first : code₁ ≡ true → left (2 * l) ≡ 2 * l
+    ends-first a =
+        let e : 2 * l + 0 ≡ 2 * l = omega arith in
+        first-yes (outAt S v) (2 * l) (2 * links) (omega arith) (rw e at (sym first-end-is ∙ a))
 
-  module _ (l : ℕ) (e : l ≡ first (outLink S v) 0 links) (h : l < links) where
-    abbrev code : Bool
-    code = eqb (getD node (2 * l) 0) v && getD live l false && getD out (2 * l) false
+    past : code₁ ≡ false → left (2 * l) ≡ left (2 * l + 1)
+    past a =
+        let e : 2 * l + 0 ≡ 2 * l = omega arith in
+        first-no (outAt S v) (2 * l) (2 * links) (omega arith) (rw e at (sym first-end-is ∙ a))
 
-    pub end-first : code ≡ true → 2 * l ≡ first (outAt S v) 0 (2 * links)
-    end-first t =
-        let at : outAt S v (2 * l + 0) ≡ true = sym (first-end-is l h) ∙ t in
-        let same : 2 * l + 0 ≡ 2 * l = omega arith in
-        sym same ∙ (rw at at (way-some l e h))
+    pub ends-second : code₁ ≡ false → code₂ ≡ true → left (2 * l) ≡ 2 * l + 1
+    ends-second a b = past a ∙ first-yes (outAt S v) (2 * l + 1) (2 * links) (omega arith) (sym second-end-is ∙ b)
 
-    pub end-second : code ≡ false → 2 * l + 1 ≡ first (outAt S v) 0 (2 * links)
-    end-second t =
-        let at : outAt S v (2 * l + 0) ≡ false = sym (first-end-is l h) ∙ t in
-        rw at at (way-some l e h)
+    pub goes-on : code₁ ≡ false → code₂ ≡ false → left (2 * l) ≡ left (2 * (l + 1))
+    goes-on a b =
+        let e : 2 * l + 1 + 1 ≡ 2 * (l + 1) = omega arith in
+        past a ∙ rw e at (first-no (outAt S v) (2 * l + 1) (2 * links) (omega arith) (sym second-end-is ∙ b))
+
+  -- ends that are not Out at the node are passed
+  pub passes : (k : ℕ) → k ≤ 2 * links → any (λ x. eqb (getD node x 0) v && getD out x false) k ≡ false
+      → first (outAt S v) 0 (2 * links) ≡ first (outAt S v) k (2 * links - k)
+  passes k h e =
+      let zero : (n : ℕ) → 0 + n ≡ n = λ n. omega arith in
+      first-start (outAt S v) (2 * links)
+      ∙ rw (zero k) at (first-skip (outAt S v) k 0 (2 * links)
+      (λ x b. rw (zero x) (sym (out-is x (omega arith)) ∙ between (eqb (getD node x 0) v) (getD live (x / 2) false) (getD out x false) (any-false (λ y. eqb (getD node y 0) v && getD out y false) k x e b)))
+      (omega arith))

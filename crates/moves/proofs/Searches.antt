@@ -10,7 +10,7 @@ use lib.Dec.{ltb, eqb}
 use lib.ListN.{getD}
 use borrow.Author.Tests.{lt-ltb, le-ltb, ltb-true, ltb-false}
 use Rattle.model.specs.Below.{any, first}
-use Rattle.model.proofs.Below.{look, any-here, any-false}
+use Rattle.model.proofs.Below.{look, or-neither, any-here, any-false}
 use Rattle.arrays.specs.View.{used}
 
 -- ---- some number below a bound: one more is looked at
@@ -21,6 +21,15 @@ any-none p = refl
 pub any-more : (p : ℕ → Bool) (i : ℕ) {some here : Bool} → some ≡ any p i → here ≡ p i → (some || here) ≡ any p (i + 1)
 unfolding any
 any-more p i e h = rw (add-one, e, h)
+
+-- and a block more, in which none is
+pub any-block : (p : ℕ → Bool) (n i : ℕ) → any p i ≡ false → any (λ j. p (i + j)) n ≡ false → any p (i + n) ≡ false
+unfolding any
+any-block p zero i a b = let e : i + 0 ≡ i = omega arith in rw (e, a)
+any-block p (suc n) i a b =
+    let e : i + suc n ≡ suc (i + n) = omega arith in
+    let h = or-neither (any (λ j. p (i + j)) n) (p (i + n)) b in
+    rw (e, any-block p n i a (h .0), h .1)
 
 -- ---- a search, by what is left of it
 left-suc : (k i : ℕ) → i < k → k - i ≡ suc (k - suc i)

@@ -1,38 +1,82 @@
 // Searches over the ends of a node and over the packets in flight.
 use arrays::SLOTS;
 ghost use mathlib.Core.Path.{_≡_};
+ghost use mathlib.Core.Bool.{false, _&&_};
 ghost use mathlib.Core.List.{[]};
 ghost use Prim.Native.Nat.{ℕ, suc, _+_, _-_, _*_, _≤_, _<_};
 ghost use lib.Dec.{eqb};
 ghost use lib.ListN.{getD};
-ghost use Rattle.model.specs.Limits.{linksMost, nodesMost, flightMost};
+ghost use Rattle.model.specs.Limits.{linksMost, endsMost, nodesMost, flightMost};
 ghost use Rattle.model.specs.Below.{any, first};
-ghost use Rattle.model.specs.Departure.{outAt, outLink, hasLive, hasMark};
+ghost use Rattle.model.specs.Departure.{outAt, hasLive, hasMark};
 ghost use Rattle.arrays.specs.View.{endsSeen};
 
-// How many packets one test looks at.
+// How many ends or packets one test looks at.
 pub(crate) const BLOCK: usize = 16;
 
-// The first live link whose end at the node is Out, or the number of links.
+// Whether some end of the block is Out and at the node.
+fn out_block<'a>(
+    node: &'a [u16; model::ENDS],
+    out: &'a [bool; model::ENDS],
+    from: usize,
+    v: u16,
+) -> bool
+    requires { ⌜ from + 16 ≤ endsMost ⌝ }
+    ensures { λ r. ⌜ r ≡ any (λ j. eqb (getD (now (node .entry)) (from + j) 0) v && getD (now (out .entry)) (from + j) false) 16 ⌝ }
+{
+    let mut some = false;
+    let mut j: usize = 0;
+    while j < BLOCK {
+        some = some | ((node[from + j] == v) & out[from + j]);
+        j += 1;
+    }
+    some
+}
+
+// How many links whole blocks pass before one that has an Out end at the node.
+fn passed<'a>(
+    node: &'a [u16; model::ENDS],
+    out: &'a [bool; model::ENDS],
+    links: usize,
+    v: u16,
+) -> usize
+    requires { ⌜ links ≤ linksMost ⌝ }
+    ensures { λ r. ⌜ (r ≤ links) × (any (λ x. eqb (getD (now (node .entry)) x 0) v && getD (now (out .entry)) x false) (2 * r) ≡ false) ⌝ }
+{
+    let mut l: usize = 0;
+    loop {
+        if links < l + BLOCK / 2 {
+            break l;
+        }
+        if out_block(node, out, 2 * l, v) {
+            break l;
+        }
+        l += BLOCK / 2;
+    }
+}
+
+// The first live Out end of the node from a link on, or the number of ends.
 fn lowest<'a>(
     node: &'a [u16; model::ENDS],
     live: &'a [bool; model::LINKS],
     out: &'a [bool; model::ENDS],
     links: usize,
     v: u16,
+    from: usize,
 ) -> usize
-    requires { ⌜ links ≤ linksMost ⌝ }
-    ensures { λ r. ⌜ (r ≤ links) × (r ≡ first (outLink (endsSeen links (now (node .entry)) (now (live .entry)) (now (out .entry)) [] []) v) 0 links) ⌝ }
+    requires { ⌜ (links ≤ linksMost) × (from ≤ links) ⌝ }
+    ensures { λ r. ⌜ r ≡ first (outAt (endsSeen links (now (node .entry)) (now (live .entry)) (now (out .entry)) [] []) v) (2 * from) (2 * links - 2 * from) ⌝ }
 {
-    let mut l: usize = 0;
+    let mut l = from;
     loop {
         if links <= l {
-            break links;
+            break 2 * links;
         }
-        let a = (node[2 * l] == v) & live[l] & out[2 * l];
-        let b = (node[2 * l + 1] == v) & live[l] & out[2 * l + 1];
-        if a | b {
-            break l;
+        if (node[2 * l] == v) & live[l] & out[2 * l] {
+            break 2 * l;
+        }
+        if (node[2 * l + 1] == v) & live[l] & out[2 * l + 1] {
+            break 2 * l + 1;
         }
         l += 1;
     }
@@ -49,14 +93,8 @@ pub(crate) fn way_out<'a>(
     requires { ⌜ links ≤ linksMost ⌝ }
     ensures { λ r. ⌜ r ≡ first (outAt (endsSeen links (now (node .entry)) (now (live .entry)) (now (out .entry)) [] []) v) 0 (2 * links) ⌝ }
 {
-    let l = lowest(node, live, out, links, v);
-    if l == links {
-        return 2 * links;
-    }
-    if (node[2 * l] == v) & live[l] & out[2 * l] {
-        return 2 * l;
-    }
-    2 * l + 1
+    let from = passed(node, out, links, v);
+    lowest(node, live, out, links, v, from)
 }
 
 // Whether the node has a live end.
