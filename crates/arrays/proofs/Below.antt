@@ -1,5 +1,5 @@
 -- Laws of the tests below a bound, of a function's first values, and of the entries in use. Assumes nothing.
-use Prim.Native.Nat.{ℕ, zero, suc, _+_, _*_, _≤_, _<_}
+use Prim.Native.Nat.{ℕ, zero, suc, _+_, _-_, _*_, _≤_, _<_}
 use native.Mathlib.Omega.{arith}
 use native.Mathlib.Numerals.{add-one}
 use mathlib.Core.Path.{_≡_, refl, sym, ap, ap₂, _∙_, fun-ext}
@@ -17,6 +17,10 @@ pub not-or : (a b : Bool) → not (a || b) ≡ (not a && not b)
 not-or true b = refl
 not-or false b = refl
 
+pub not-not : (b : Bool) → not (not b) ≡ b
+not-not true = refl
+not-not false = refl
+
 pub not-leb : (a b : ℕ) → ltb a b ≡ not (leb b a)
 not-leb a b = elim (look (leb b a)) [
   | inl e ↦ rw (e, le-ltb a b (leb-true b a e))
@@ -27,6 +31,12 @@ pub not-ltb : (a b : ℕ) → leb a b ≡ not (ltb b a)
 not-ltb a b = elim (look (ltb b a)) [
   | inl e ↦ rw (e, lt-leb a b (ltb-true b a e))
   | inr e ↦ rw (e, le-leb a b (ltb-false b a e))
+]
+
+pub ltb-leb : (k n : ℕ) → 0 < k → ltb (k - 1) n ≡ leb k n
+ltb-leb k n h = elim (look (leb k n)) [
+  | inl e ↦ rw (e, lt-ltb (k - 1) n (omega (arith, leb-true k n e)))
+  | inr e ↦ rw (e, le-ltb (k - 1) n (omega (arith, leb-false k n e)))
 ]
 
 -- all pass exactly if none fails

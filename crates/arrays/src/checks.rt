@@ -4,7 +4,7 @@ use crate::Tally;
 ghost use mathlib.Core.Path.{_≡_};
 ghost use mathlib.Core.Bool.{false, not, _&&_, _||_};
 ghost use mathlib.Core.List.{[]};
-ghost use Prim.Native.Nat.{ℕ, _+_, _*_, _/_, _≤_, _<_};
+ghost use Prim.Native.Nat.{ℕ, _+_, _*_, _≤_, _<_};
 ghost use lib.Dec.{leb, ltb, eqb};
 ghost use lib.ListN.{getD};
 ghost use Rattle.model.specs.Limits.{nodesMost, linksMost, endsMost, flightMost};
@@ -51,13 +51,13 @@ pub(crate) fn out_marked<'a>(
     requires { ⌜ ends ≤ endsMost ⌝ }
     ensures { λ r. ⌜ r ≡ any (λ x. getD (now (out .entry)) x false && getD (now (mark .entry)) x false) ends ⌝ }
 {
-    let mut bad = false;
+    let mut fit = true;
     let mut x: usize = 0;
     while x < ends {
-        bad = bad | (out[x] & mark[x]);
+        fit = fit & !(out[x] & mark[x]);
         x += 1;
     }
-    bad
+    !fit
 }
 
 // Some node has more turns than there were events.
@@ -79,10 +79,14 @@ pub(crate) fn number_over(number: &[u32; SLOTS], flying: usize, admitted: u32) -
     requires { ⌜ flying ≤ flightMost ⌝ }
     ensures { λ r. ⌜ r ≡ any (λ i. leb admitted (getD (now (number .entry)) i 0)) flying ⌝ }
 {
+    if admitted == 0 {
+        return 0 < flying;
+    }
+    let last = admitted - 1;
     let mut bad = false;
     let mut i: usize = 0;
     while i < flying {
-        bad = bad | (admitted <= number[i]);
+        bad = bad | (last < number[i]);
         i += 1;
     }
     bad
@@ -93,13 +97,17 @@ pub(crate) fn lane_over(lane: &[u16; SLOTS], flying: usize, lanes: u16) -> bool
     requires { ⌜ flying ≤ flightMost ⌝ }
     ensures { λ r. ⌜ r ≡ any (λ i. leb lanes (getD (now (lane .entry)) i 0)) flying ⌝ }
 {
-    let mut bad = false;
+    if lanes == 0 {
+        return 0 < flying;
+    }
+    let last = lanes - 1;
+    let mut fit = true;
     let mut i: usize = 0;
     while i < flying {
-        bad = bad | (lanes <= lane[i]);
+        fit = fit & (lane[i] <= last);
         i += 1;
     }
-    bad
+    !fit
 }
 
 // Some link is down.
@@ -112,42 +120,6 @@ pub(crate) fn some_down(live: &[bool; model::LINKS], links: usize) -> bool
     while l < links {
         bad = bad | !live[l];
         l += 1;
-    }
-    bad
-}
-
-// Some end of a link that is down is marked.
-pub(crate) fn down_marked<'a>(
-    live: &'a [bool; model::LINKS],
-    mark: &'a [bool; model::ENDS],
-    links: usize,
-) -> bool
-    requires { ⌜ links ≤ linksMost ⌝ }
-    ensures { λ r. ⌜ r ≡ any (λ l. not (getD (now (live .entry)) l false) && (getD (now (mark .entry)) (2 * l) false || getD (now (mark .entry)) (2 * l + 1) false)) links ⌝ }
-{
-    let mut bad = false;
-    let mut l: usize = 0;
-    while l < links {
-        bad = bad | (!live[l] & (mark[2 * l] | mark[2 * l + 1]));
-        l += 1;
-    }
-    bad
-}
-
-// Some packet is on a lane of a link that is down.
-pub(crate) fn lane_down<'a>(
-    lane: &'a [u16; SLOTS],
-    live: &'a [bool; model::LINKS],
-    flying: usize,
-) -> bool
-    requires { ⌜ (flying ≤ flightMost) × ((i : ℕ) → i < flying → getD (now lane) i 0 < endsMost) ⌝ }
-    ensures { λ r. ⌜ r ≡ any (λ i. not (getD (now (live .entry)) (getD (now (lane .entry)) i 0 / 2) false)) flying ⌝ }
-{
-    let mut bad = false;
-    let mut i: usize = 0;
-    while i < flying {
-        bad = bad | !live[lane[i] as usize / 2];
-        i += 1;
     }
     bad
 }

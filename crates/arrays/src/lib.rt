@@ -1,8 +1,7 @@
 // The arrays of a record: what they show a reader, and whether it is well formed.
 mod checks;
+mod down;
 
-use checks::down_marked;
-use checks::lane_down;
 use checks::lane_over;
 use checks::limits_hold;
 use checks::number_over;
@@ -11,6 +10,8 @@ use checks::self_linked;
 use checks::some_down;
 use checks::top_node;
 use checks::turns_over;
+use down::down_marked;
+use down::lane_down;
 ghost use mathlib.Core.Path.{_≡_};
 ghost use mathlib.Core.List.{[]};
 ghost use Rattle.model.specs.Below.{tab};

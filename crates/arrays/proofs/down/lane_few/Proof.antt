@@ -7,8 +7,8 @@ use lib.ListN.{getD}
 use borrow.Author.Needs.{needs}
 use Rattle.model.specs.Below.{any}
 use Rattle.arrays.proofs.Loops.{any-none, any-more, any-end}
-use Rattle.arrays.proofs.checks.lane_down.Statement.{statement}
-use Rattle.arrays.proofs.checks.lane_down.Tie as tie
+use Rattle.arrays.proofs.down.lane_few.Statement.{statement}
+use Rattle.arrays.proofs.down.lane_few.Tie as tie
 
 abbrev Inv-loop : tie.InvT-loop
 Inv-loop lane live flying bad₀ i₀ bad i = (i ≤ flying) × (bad ≡ any (λ j. not (getD live (getD lane j 0 / 2) false)) i)
@@ -47,8 +47,8 @@ returns c =
     let h = c .before .loop in
     any-end _ (h .i) (c .before .before .args .flying) (h .inv .1) (h .inv .0) (c .loop-test .left)
 
-pub lane-down-spec : {M : Type 1} → statement M
-lane-down-spec =
+pub lane-few-spec : {M : Type 1} → statement M
+lane-few-spec =
     tie.close
     (tie.spec
     Inv-loop
