@@ -2,7 +2,7 @@
 use Prim.Native.Nat.{ℕ, zero, suc, _+_, _≤_, _<_}
 use native.Mathlib.Omega.{arith}
 use native.Mathlib.Numerals.{add-one}
-use mathlib.Core.Path.{_≡_, refl, ap}
+use mathlib.Core.Path.{_≡_, refl, sym, ap}
 use mathlib.Core.List.{List, [], _∷_}
 use lib.ListN.{length, getD, set}
 
@@ -49,3 +49,14 @@ set-next f (suc k) (x ∷ xs) d h = ap (λ l. f 0 x ∷ l) (set-next (λ j. f (s
 pub patch-store {ℓ} : {A : Type ℓ} (f : ℕ → A → A) (k : ℕ) (xs ys : List A) (d v : A) → k < length xs → ys ≡ patch f k xs
     → v ≡ f k (getD xs k d) → set ys k v ≡ patch f (k + 1) xs
 patch-store f k xs ys d v h e q = rw (q, e, add-one) (set-next f k xs d h)
+
+-- no store where f changes nothing
+keep-next {ℓ} : {A : Type ℓ} (f : ℕ → A → A) (k : ℕ) (xs : List A) (d : A) → f k (getD xs k d) ≡ getD xs k d → patch f k xs ≡ patch f (suc k) xs
+unfolding patch
+keep-next f zero [] d e = refl
+keep-next f (suc k) [] d e = refl
+keep-next f zero (x ∷ xs) d e = ap (λ a. a ∷ xs) (sym e)
+keep-next f (suc k) (x ∷ xs) d e = ap (λ l. f 0 x ∷ l) (keep-next (λ j. f (suc j)) k xs d e)
+
+pub patch-keep {ℓ} : {A : Type ℓ} (f : ℕ → A → A) (k : ℕ) (xs ys : List A) (d : A) → ys ≡ patch f k xs → f k (getD xs k d) ≡ getD xs k d → ys ≡ patch f (k + 1) xs
+patch-keep f k xs ys d q e = rw (q, add-one) (keep-next f k xs d e)

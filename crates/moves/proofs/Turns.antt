@@ -7,7 +7,7 @@ use mathlib.Core.Bool.{Bool, true, false, not, cond, _&&_, _||_, or-false, and-f
 use mathlib.Core.List.{List, []}
 use lib.Dec.{eqb, ltb}
 use lib.ListN.{length, getD, set}
-use borrow.Author.Tests.{ltb-true, ltb-false}
+use borrow.Author.Tests.{eq-eqb, ne-eqb}
 use Rattle.model.specs.Limits.{linksMost, endsMost}
 use Rattle.model.specs.State.{State}
 use Rattle.model.specs.Departure.{liveAt, markAt, hasMark, reverses, turn}
@@ -15,7 +15,7 @@ use Rattle.model.proofs.Below.{look}
 use Rattle.arrays.specs.View.{used, endsSeen}
 use Rattle.arrays.proofs.Below.{used-in, used-is, used-out}
 use Rattle.moves.specs.Turned.{Long, Turned}
-use Rattle.moves.proofs.Patches.{patch, patch-none, patch-length, patch-ahead, patch-done, patch-store}
+use Rattle.moves.proofs.Patches.{patch, patch-none, patch-length, patch-ahead, patch-done, patch-store, patch-keep}
 
 pick-is : (h a m : Bool) → (h && a || not h && m) ≡ cond h a m
 pick-is true a m = or-false a
@@ -58,14 +58,10 @@ module _ (links : ℕ) (node : List ℕ) (live out local mark : List Bool) (v : 
     m = getD marks x false
 
     abbrev turned : Bool
-    turned = eqb (getD node x 0) v && (full && getD live (x / 2) false || not full && m)
+    turned = full && getD live (x / 2) false || not full && m
 
     m-is : m ≡ getD mark x false
     m-is = rw (t .marks-are) (patch-ahead newMark x mark x false (omega arith))
-
-    turned-is : turned ≡ turns x
-    unfolding turns here alive
-    turned-is = rw (pick-is full (getD live (x / 2) false) m, m-is)
 
     out-is : getD outs x false ≡ getD out x false
     out-is = rw (t .outs-are) (patch-ahead newOut x out x false (omega arith))
@@ -73,19 +69,38 @@ module _ (links : ℕ) (node : List ℕ) (live out local mark : List Bool) (v : 
     local-is : getD locals x false ≡ getD local x false
     local-is = rw (t .locals-are) (patch-ahead newLocal x local x false (omega arith))
 
-    module _ (l : x < 2 * links) (small : links ≤ linksMost) (long : Long out local mark) where
+    -- an end of the node
+    module _ (h : getD node x 0 ≡ v) (l : x < 2 * links) (small : links ≤ linksMost) (long : Long out local mark) where
+      here-is : here x ≡ true
+      unfolding here
+      here-is = eq-eqb (getD node x 0) v h
+
+      turned-is : turned ≡ turns x
+      unfolding turns alive
+      turned-is = rw (here-is, pick-is full (getD live (x / 2) false) m, m-is)
+
       pub turning-more : Turning (x + 1) (set outs x (turned || getD outs x false))
           (set locals x (turned && not (getD locals x false) || not turned && getD locals x false))
-          (set marks x (eqb (getD node x 0) v && (getD live (x / 2) false && not (turned || getD outs x false)) || not (eqb (getD node x 0) v) && m))
-      unfolding newOut newLocal newMark here alive
+          (set marks x (getD live (x / 2) false && not (turned || getD outs x false)))
+      unfolding newOut newLocal newMark alive
       turning-more =
           record {
             outs-are = patch-store newOut x out outs false _ (omega arith) (t .outs-are) (rw (turned-is, out-is));
             locals-are = patch-store newLocal x local locals false _ (omega arith) (t .locals-are)
                 (rw (pick-is turned (not (getD locals x false)) (getD locals x false), turned-is, local-is));
-            marks-are = patch-store newMark x mark marks false _ (omega arith) (t .marks-are)
-                (rw (pick-is (eqb (getD node x 0) v) (getD live (x / 2) false && not (turned || getD outs x false)) m, turned-is, out-is, m-is));
+            marks-are = patch-store newMark x mark marks false _ (omega arith) (t .marks-are) (rw (here-is, turned-is, out-is));
           }
+
+    -- an end of another node
+    pub turning-on : (getD node x 0 ≡ v → ⊥) → Turning (x + 1) outs locals marks
+    unfolding newOut newLocal newMark turns here
+    turning-on h =
+        let e = ne-eqb (getD node x 0) v h in
+        record {
+          outs-are = patch-keep newOut x out outs false (t .outs-are) (rw e);
+          locals-are = patch-keep newLocal x local locals false (t .locals-are) (rw e);
+          marks-are = patch-keep newMark x mark marks false (t .marks-are) (rw e);
+        }
 
   -- all ends have had their part: this is the turn
   module _ (marked : full ≡ not (hasMark S v)) (small : links ≤ linksMost) (long : Long out local mark) where

@@ -27,16 +27,18 @@ fn turn_ends(
     let ends = 2 * links;
     let mut x: usize = 0;
     while x < ends {
-        let here = node[x] == v;
-        let alive = live[x / 2];
-        let m = mark[x];
-        let t = here & (full & alive | !full & m);
-        let o = t | out[x];
-        out[x] = o;
-        let b = local[x];
-        local[x] = t & !b | !t & b;
-        mark[x] = here & (alive & !o) | !here & m;
+        let y = x;
         x += 1;
+        if node[y] == v {
+            let alive = live[y / 2];
+            let m = mark[y];
+            let t = full & alive | !full & m;
+            let o = t | out[y];
+            out[y] = o;
+            let b = local[y];
+            local[y] = t & !b | !t & b;
+            mark[y] = alive & !o;
+        }
     }
 }
 

@@ -1,12 +1,10 @@
 -- The ends passed have had their part. Assumes nothing.
-use Prim.Native.Nat.{_+_, _-_, _*_, _≤_, _<_}
+use Prim.Native.Nat.{_+_, _-_, _*_, _≤_}
 use native.Mathlib.Omega.{arith}
-use mathlib.Core.Path.{_≡_, sym, _∙_}
-use lib.ListN.{length}
+use mathlib.Core.Path.{_≡_}
 use denote.Ref.{now}
-use Rattle.model.specs.Limits.{endsMost}
 use Rattle.model.specs.Departure.{hasMark}
-use Rattle.moves.proofs.Turns.{Turning, turning-none, turning-more, turning-all}
+use Rattle.moves.proofs.Turns.{Turning, turning-none, turning-more, turning-on, turning-all}
 use borrow.Author.Needs.{needs}
 use Rattle.moves.proofs.arrows.turn_ends.Statement.{statement}
 use Rattle.moves.proofs.arrows.turn_ends.Tie as tie
@@ -25,11 +23,14 @@ loop-holds c =
     let a = c .args in
     (omega arith, turning-none (a .links) (now (a .node)) (now (a .live)) (now (a .out)) (now (a .local)) (now (a .mark)) (a .v) (a .full))
 
-mul-here : tie.Need-mul-here Inv-loop μ-loop
-mul-here c = search needs
+add-x : tie.Need-add-x Inv-loop μ-loop
+add-x c = search needs
 
-element-copy-out-here : tie.Need-element-copy-out-here Inv-loop μ-loop
-element-copy-out-here c = search needs
+mul-if1 : tie.Need-mul-if1 Inv-loop μ-loop
+mul-if1 c = search needs
+
+element-copy-out-if1 : tie.Need-element-copy-out-if1 Inv-loop μ-loop
+element-copy-out-if1 c = search needs
 
 element-copy-out-alive : tie.Need-element-copy-out-alive Inv-loop μ-loop
 element-copy-out-alive c = search needs
@@ -52,17 +53,25 @@ element-write-local c = search needs
 element-write-mark : tie.Need-element-write-mark Inv-loop μ-loop
 element-write-mark c = search needs
 
-add-x : tie.Need-add-x Inv-loop μ-loop
-add-x c = search needs
-
 loop-less : tie.Need-loop-less Inv-loop μ-loop
 loop-less c = search needs
 
 loop-again : tie.Need-loop-again Inv-loop μ-loop
 loop-again c =
-    let a = c .before .before .before .before .before .before .before .args in
-    let h = c .before .before .before .before .before .before .loop in
-    (omega arith, turning-more (a .links) (now (a .node)) (now (a .live)) (now (a .out)) (now (a .local)) (now (a .mark)) (a .v) (a .full) (h .x) (h .out) (h .local) (h .mark) (h .inv .1) (omega arith) (c .before .before .before .before .before .before .before .pre .0) (c .before .before .before .before .before .before .before .pre .2))
+    let f = c .before .before .before .before in
+    let h = f .before .before .before .loop in
+    let s = f .before .before .before .before in
+    let a = s .args in
+    (omega arith, turning-more (a .links) (now (a .node)) (now (a .live)) (now (a .out)) (now (a .local)) (now (a .mark)) (a .v) (a .full) (h .x) (h .out) (h .local) (h .mark) (h .inv .1) (f .if1 .taken) (omega arith) (s .pre .0) (s .pre .2))
+
+loop-less-2 : tie.Need-loop-less-2 Inv-loop μ-loop
+loop-less-2 c = search needs
+
+loop-again-2 : tie.Need-loop-again-2 Inv-loop μ-loop
+loop-again-2 c =
+    let h = c .before .before .before .loop in
+    let a = c .before .before .before .before .args in
+    (omega arith, turning-on (a .links) (now (a .node)) (now (a .live)) (now (a .out)) (now (a .local)) (now (a .mark)) (a .v) (a .full) (h .x) (h .out) (h .local) (h .mark) (h .inv .1) (c .if1 .left))
 
 returns : tie.Need-returns Inv-loop μ-loop
 unfolding hasMark
@@ -80,8 +89,9 @@ turn-ends-spec =
     μ-loop
     mul-ends
     loop-holds
-    mul-here
-    element-copy-out-here
+    add-x
+    mul-if1
+    element-copy-out-if1
     element-copy-out-alive
     element-copy-out-m
     element-copy-out-o
@@ -89,7 +99,8 @@ turn-ends-spec =
     element-copy-out-b
     element-write-local
     element-write-mark
-    add-x
     loop-less
     loop-again
+    loop-less-2
+    loop-again-2
     returns)
