@@ -12,8 +12,6 @@ use Rattle.model.specs.Below.{any}
 use Rattle.arrays.proofs.Loops.{any-none, any-block}
 use Rattle.arrays.proofs.down.down_marked.Statement.{statement}
 use Rattle.arrays.proofs.down.down_marked.Tie as tie
-use Rattle.arrays.proofs.down.marked_block.Reads as marked-block-reads
-use Rattle.arrays.proofs.down.marked_few.Reads as marked-few-reads
 
 abbrev bad-at : List Bool → List Bool → ℕ → Bool
 bad-at live mark l = not (getD live l false) && (getD mark (2 * l) false || getD mark (2 * l + 1) false)

@@ -12,8 +12,6 @@ use Rattle.model.specs.Below.{any}
 use Rattle.arrays.proofs.Loops.{any-none, any-block}
 use Rattle.arrays.proofs.down.lane_down.Statement.{statement}
 use Rattle.arrays.proofs.down.lane_down.Tie as tie
-use Rattle.arrays.proofs.down.lane_block.Reads as lane-block-reads
-use Rattle.arrays.proofs.down.lane_few.Reads as lane-few-reads
 
 abbrev bad-at : List ℕ → List Bool → ℕ → Bool
 bad-at lane live i = not (getD live (getD lane i 0 / 2) false)

@@ -10,7 +10,6 @@ use Rattle.moves.proofs.Searches.{any-none, any-block}
 use borrow.Author.Needs.{needs}
 use Rattle.moves.proofs.search.passed.Statement.{statement}
 use Rattle.moves.proofs.search.passed.Tie as tie
-use Rattle.moves.proofs.search.out_block.Reads as out-block-reads
 
 abbrev Inv-loop : tie.InvT-loop
 Inv-loop node out links v l₀ l = (l ≤ links) × (any (λ x. eqb (getD node x 0) v && getD out x false) (2 * l) ≡ false)
