@@ -5,15 +5,18 @@ use native.Mathlib.Numerals.{add-one}
 use mathlib.Core.Path.{_≡_, refl, sym, ap, _∙_}
 use mathlib.Core.Logic.{inl, inr}
 use mathlib.Core.Bool.{Bool, true, false, not, cond, _&&_, _||_, or-false}
-use mathlib.Core.List.{List}
-use lib.Bits.{bitAnd}
-use lib.Dec.{leb, ltb, eqb}
+use lib.Bits.{bitAnd, bitOr, and-le-r, or-zero-l, or-add-and}
+use lib.Dec.{ltb, eqb}
 use mir.Val.{boolByte}
-use lib.ListN.{getD}
-use borrow.Author.Tests.{lt-ltb, le-leb, lt-leb, leb-true, leb-false}
+use borrow.Author.Tests.{ne-eqb, lt-ltb}
 use Rattle.model.specs.Below.{any}
 use Rattle.model.proofs.Below.{look, or-right, any-here, any-found, any-false}
 use Rattle.arrays.proofs.Below.{not-or, not-not}
+
+-- numbers joined bit by bit are 0 only where both are
+pub or-none : (a b : ℕ) → eqb (bitOr a b) 0 ≡ (eqb a 0 && eqb b 0)
+or-none zero b = rw (or-zero-l b)
+or-none (suc a) b = rw (ne-eqb (bitOr (suc a) b) 0 (λ e. omega (arith, e, or-add-and (suc a) b, and-le-r (suc a) b)), ne-eqb (suc a) 0 (λ e. omega (arith, e)))
 
 module _ (p : ℕ → Bool) where
   pub any-none : false ≡ any p 0
@@ -93,32 +96,3 @@ module _ (p : ℕ → Bool) where
       go : (a : Bool) → eqb (cond a 0 1) 0 ≡ a
       go true = refl
       go false = refl
-
--- A running maximum: it reaches a number exactly if some value so far does.
-abbrev pub Reaches : List ℕ → ℕ → ℕ → Type 0
-Reaches xs top i = (k : ℕ) → 0 < k → leb k top ≡ any (λ j. leb k (getD xs j 0)) i
-
-pub reaches-none : (xs : List ℕ) → Reaches xs 0 0
-reaches-none xs k h = lt-leb k 0 h ∙ any-none (λ j. leb k (getD xs j 0))
-
-module _ (xs : List ℕ) (top i new : ℕ) (r : Reaches xs top i) where
-  abbrev next : ℕ
-  next = getD xs i 0
-
-  either : (k : ℕ) → 0 < k → leb k new ≡ (leb k top || leb k next) → leb k new ≡ any (λ j. leb k (getD xs j 0)) (i + 1)
-  either k h e = e ∙ any-more (λ j. leb k (getD xs j 0)) i (r k h)
-
-  pub reaches-up : top < next → new ≡ next → Reaches xs new (i + 1)
-  reaches-up l e k h = either k h (elim (look (leb k top)) [
-    | inl t ↦ rw t (le-leb k new (omega (arith, leb-true k top t)))
-    | inr t ↦ rw (t, e)
-  ])
-
-  pub reaches-keep : next ≤ top → new ≡ top → Reaches xs new (i + 1)
-  reaches-keep l e k h = either k h (elim (look (leb k top)) [
-    | inl t ↦ rw (e, t)
-    | inr t ↦ rw (e, t, lt-leb k next (omega (arith, leb-false k top t)))
-  ])
-
-pub reaches-end : (xs : List ℕ) (top i n : ℕ) → Reaches xs top i → i ≤ n → n ≤ i → Reaches xs top n
-reaches-end xs top i n r l m k h = any-end (λ j. leb k (getD xs j 0)) i n (r k h) l m

@@ -13,19 +13,21 @@ ghost use Rattle.model.specs.Formed.{wellFormed};
 ghost use Rattle.arrays.specs.View.{netOf, endsOf, packetAt, countsOf, stateOf};
 ghost use Rattle.arrays.specs.Formed.{tallied};
 
-// The greatest node number, which reaches a number exactly if some end's does.
-pub(crate) fn top_node(node: &[u16; model::ENDS], ends: usize) -> u16
-    requires { ⌜ ends ≤ endsMost ⌝ }
-    ensures { λ r. ⌜ ((k : ℕ) → 0 < k → leb k r ≡ any (λ x. leb k (getD (now (node .entry)) x 0)) ends) ⌝ }
+// Some end is at no node: by how much its number exceeds the last is one vector instruction.
+pub(crate) fn node_over(node: &[u16; model::ENDS], ends: usize, nodes: u16) -> bool
+    requires { ⌜ (ends ≤ endsMost) × (0 < nodes) ⌝ }
+    ensures { λ r. ⌜ r ≡ any (λ x. leb nodes (getD (now (node .entry)) x 0)) ends ⌝ }
 {
-    let mut top: u16 = 0;
+    let last = nodes - 1;
+    let mut over: u16 = 0;
     let mut x: usize = 0;
     while x < ends {
         let a = node[x];
-        top = if top < a { a } else { top };
+        let more = if last < a { a - last } else { 0 };
+        over = over | more;
         x += 1;
     }
-    top
+    over != 0
 }
 
 // Some link joins a node to itself.

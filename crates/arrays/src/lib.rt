@@ -4,11 +4,11 @@ mod down;
 
 use checks::lane_over;
 use checks::limits_hold;
+use checks::node_over;
 use checks::number_over;
 use checks::out_marked;
 use checks::self_linked;
 use checks::some_down;
-use checks::top_node;
 use checks::turns_over;
 use down::down_marked;
 use down::lane_down;
@@ -62,7 +62,7 @@ pub fn formed<'a>(
     }
     let ends = 2 * links;
     let flying = tally.flying;
-    if (nodes as u16 <= top_node(node, ends))
+    if node_over(node, ends, nodes as u16)
         | self_linked(node, links)
         | out_marked(out, mark, ends)
     {

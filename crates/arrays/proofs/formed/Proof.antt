@@ -27,7 +27,7 @@ passed c =
     let count = or-neither _ _ (second .0) in
     record {
       limits = sym (c .before .before .before .before .before .before .before .before .before .limits-hold .ensures) ∙ not-false _ (c .before .before .before .before .before .before .before .before .if1 .left);
-      named = sym (c .before .before .before .before .before .before .before .top-node .ensures (a .nodes) (w .some-node)) ∙ link .0;
+      named = sym (c .before .before .before .before .before .before .before .node-over .ensures) ∙ link .0;
       joined = sym (c .before .before .before .before .before .before .self-linked .ensures) ∙ link .1;
       outs = sym (c .before .before .before .before .before .out-marked .ensures) ∙ first .1;
       turned = sym (c .before .before .before .turns-over .ensures) ∙ count .0;
@@ -47,12 +47,12 @@ mul-ends : tie.Need-mul-ends
 mul-ends c =
     let w = bounds c in omega arith
 
-cast-if2 : tie.Need-cast-if2
-cast-if2 c =
+cast-node-over : tie.Need-cast-node-over
+cast-node-over c =
     let w = bounds c in omega arith
 
-top-node-requires : tie.Need-top-node-requires
-top-node-requires c κs =
+node-over-requires : tie.Need-node-over-requires
+node-over-requires c κs =
     let w = bounds c in omega arith
 
 self-linked-requires : tie.Need-self-linked-requires
@@ -68,7 +68,7 @@ returns-2 c =
     let a = c .before .before .before .before .before .before .args in
     let w = bounds (c .before .before .before .before) in
     first-refused (now (a .node)) (now (a .live)) (now (a .out)) (now (a .mark)) (now (a .turns)) (now (a .number)) (now (a .lane)) (a .nodes) (a .destination) (a .links) (a .tally)
-    _ _ _ (c .before .before .before .top-node .ensures (a .nodes) (w .some-node)) (c .before .before .self-linked .ensures) (c .before .out-marked .ensures) (c .if2 .taken)
+    _ _ _ (c .before .before .before .node-over .ensures) (c .before .before .self-linked .ensures) (c .before .out-marked .ensures) (c .if2 .taken)
 
 turns-over-requires : tie.Need-turns-over-requires
 turns-over-requires c κs =
@@ -126,8 +126,8 @@ formed-spec =
     limits-hold-requires
     returns
     mul-ends
-    cast-if2
-    top-node-requires
+    cast-node-over
+    node-over-requires
     self-linked-requires
     out-marked-requires
     returns-2
