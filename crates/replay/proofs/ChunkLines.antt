@@ -29,7 +29,10 @@ use Rattle.steps.specs.Call.{made, call}
 use Rattle.network.specs.Calls.{calls, callAt, packetCode, wayCode, least, filled, Lists}
 use Rattle.arrays.proofs.Below.{length-tab}
 use Rattle.network.proofs.Bursts.{calls-keep}
+use Rattle.replay.specs.Puts.{Room, Put}
+use Rattle.replay.specs.Digits.{joined}
 use Rattle.replay.specs.Codes.{packetWord, wayWord, codeLine, codeLines, callLines}
+use Rattle.replay.proofs.Pending.{Pending, say, room, step}
 
 -- ---- what a code says
 packet-said : (h : Handled) → ((n : ℕ) → h ≡ handled.Packet n → n < eventsMost) → packetWord (packetCode h) ≡ handledWord h
@@ -114,17 +117,20 @@ shortest-first k b c d e p q r s =
 
 -- ---- lines one after the other
 module _ (answers packets ways : List ℕ) where
-  pub lines-more : (ordinal i n : ℕ) → i < n
-      → codeLines answers packets ways (ordinal + i) i (n - i)
-      ≡ codeLine (ordinal + i) (getD answers i 0) (getD packets i 0) (getD ways i 0)
-      ++ codeLines answers packets ways (ordinal + (i + 1)) (i + 1) (n - (i + 1))
+  lines-more : (thousands rest i n : ℕ) → i < n
+      → codeLines answers packets ways (joined thousands rest + i) i (n - i)
+      ≡ codeLine (joined thousands (rest + i)) (getD answers i 0) (getD packets i 0) (getD ways i 0)
+      ++ codeLines answers packets ways (joined thousands rest + (i + 1)) (i + 1) (n - (i + 1))
   unfolding codeLines
-  lines-more ordinal i n h =
+  lines-more thousands rest i n h =
+      let ordinal = joined thousands rest in
       let e : n - i ≡ suc (n - (i + 1)) = omega arith in
+      let o : ordinal + i ≡ joined thousands (rest + i) = omega arith in
       let p : suc (ordinal + i) ≡ ordinal + (i + 1) = omega arith in
       let q : suc i ≡ i + 1 = omega arith in
       ap (codeLines answers packets ways (ordinal + i) i) e
       ∙ ap₂ (λ x y. codeLine (ordinal + i) (getD answers i 0) (getD packets i 0) (getD ways i 0) ++ codeLines answers packets ways x y (n - (i + 1))) p q
+      ∙ ap (λ x. codeLine x (getD answers i 0) (getD packets i 0) (getD ways i 0) ++ codeLines answers packets ways (ordinal + (i + 1)) (i + 1) (n - (i + 1))) o
 
   pub lines-none : (ordinal i n : ℕ) → n ≤ i → codeLines answers packets ways (ordinal + i) i (n - i) ≡ []
   unfolding codeLines
@@ -137,3 +143,18 @@ module _ (answers packets ways : List ℕ) where
       let p : ordinal ≡ ordinal + 0 = omega arith in
       let q : n ≡ n - 0 = omega arith in
       ap₂ (λ x y. codeLines answers packets ways x 0 y) p q
+
+-- ---- a line written, the others left
+module _ (answers packets ways : List ℕ) (thousands rest i n : ℕ) (h : i < n) {l : List ℕ} {at : ℕ} {whole out : List ℕ} {next : ℕ}
+    (p : Pending l at whole out next (codeLines answers packets ways (joined thousands rest + i) i (n - i))) where
+  abbrev this : List ℕ
+  this = codeLine (joined thousands (rest + i)) (getD answers i 0) (getD packets i 0) (getD ways i 0)
+
+  abbrev others : List ℕ
+  others = codeLines answers packets ways (joined thousands rest + (i + 1)) (i + 1) (n - (i + 1))
+
+  pub room-line : Room out next this
+  room-line = room this others (say (lines-more answers packets ways thousands rest i n h) p)
+
+  pub step-line : {r : ℕ} {o : List ℕ} → Put out next this r o → Pending l at whole o r others
+  step-line q = step this others (say (lines-more answers packets ways thousands rest i n h) p) q

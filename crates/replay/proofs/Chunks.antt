@@ -58,14 +58,15 @@ module _ (file : List ℕ) (at : ℕ) where
       → readEvents file at ≡ record { events = []; spoilt = some place }
   reads-spoilt place n h = unfueled file at ∙ ap (λ x. andMore x (λ p. readEvents file p)) (spoilt-told file at place n h .0)
 
-module _ (file : List ℕ) (from : ℕ) where
-  pub gathers-none : (kinds arguments : List ℕ) → from ≤ length file → length kinds ≡ chunk → length arguments ≡ chunk
-      → Gathers file from kinds arguments 0 from
-  gathers-none kinds arguments h p q =
+module _ (file : List ℕ) (from most : ℕ) where
+  pub gathers-none : (kinds arguments : List ℕ) → from ≤ length file → most ≤ chunk → length kinds ≡ chunk → length arguments ≡ chunk
+      → Gathers file from most kinds arguments 0 from
+  gathers-none kinds arguments h s p q =
       record {
         events = [];
         many = refl;
         few = omega arith;
+        short = s;
         kinds-size = p;
         arguments-size = q;
         moved = omega arith;
@@ -74,8 +75,8 @@ module _ (file : List ℕ) (from : ℕ) where
         reads = refl;
       }
 
-  pub gathers-more : (kinds arguments : List ℕ) (i at k a : ℕ) (n : Cursor) → Gathers file from kinds arguments i at → i < chunk
-      → seen (got.Event k a n) ≡ eventAt file at → Gathers file from (set kinds i k) (set arguments i a) (i + 1) (n .at)
+  pub gathers-more : (kinds arguments : List ℕ) (i at k a : ℕ) (n : Cursor) → Gathers file from most kinds arguments i at → i < most
+      → seen (got.Event k a n) ≡ eventAt file at → Gathers file from most (set kinds i k) (set arguments i a) (i + 1) (n .at)
   gathers-more kinds arguments i at k a n g h s =
       let t = event-told file at k a n s in
       let e = t .0 in
@@ -86,19 +87,20 @@ module _ (file : List ℕ) (from : ℕ) where
         events = es ++ (e ∷ []);
         many = length-append es (e ∷ []) ∙ omega (arith, g .many);
         few = omega arith;
+        short = g .short;
         kinds-size = length-set kinds i k ∙ g .kinds-size;
         arguments-size = length-set arguments i a ∙ g .arguments-size;
         moved = omega (arith, m .0, g .moved);
         inside = m .1;
         stand = stand-last es e (set kinds i k) (set arguments i a) 0 (stand-set es kinds arguments 0 i k a (omega arith) (g .stand))
-            (ap (λ j. getD (set kinds i k) j 0) here ∙ getD-set-same kinds i k 0 (omega (arith, g .kinds-size)) ∙ sym (t .2))
-            (ap (λ j. getD (set arguments i a) j 0) here ∙ getD-set-same arguments i a 0 (omega (arith, g .arguments-size)) ∙ sym (t .3));
+            (ap (λ j. getD (set kinds i k) j 0) here ∙ getD-set-same kinds i k 0 (omega (arith, g .kinds-size, g .short)) ∙ sym (t .2))
+            (ap (λ j. getD (set arguments i a) j 0) here ∙ getD-set-same arguments i a 0 (omega (arith, g .arguments-size, g .short)) ∙ sym (t .3));
         reads = g .reads
             ∙ ap (behind es) (reads-event file at e (n .at) (t .1))
             ∙ ap (λ l. record { events = l; spoilt = readEvents file (n .at) .spoilt }) (sym (append-assoc es (e ∷ []) (readEvents file (n .at) .events)));
       }
 
-pub gathered : {file kinds arguments : List ℕ} {from count next : ℕ} {r : Gathered} (stop : Stop) → r ≡ stoppedAt count next stop
-    → Gathers file from kinds arguments count next → Stopped file count next stop → GatherPost file from kinds arguments r
-gathered {file} {kinds} {arguments} {from} stop e g s =
-    subst (GatherPost file from kinds arguments) (sym e) (record { gathers = g; stopped = s })
+pub gathered : {file kinds arguments : List ℕ} {from most count next : ℕ} {r : Gathered} (stop : Stop) → r ≡ stoppedAt count next stop
+    → Gathers file from most kinds arguments count next → Stopped file most count next stop → GatherPost file from most kinds arguments r
+gathered {file} {kinds} {arguments} {from} {most} stop e g s =
+    subst (GatherPost file from most kinds arguments) (sym e) (record { gathers = g; stopped = s })

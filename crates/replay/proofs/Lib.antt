@@ -1,5 +1,8 @@
 pub mod Pending
 pub mod Decimals
+pub mod Over
+pub mod DigitRows
+pub mod Halves
 pub mod LineParts
 pub mod CodeWords
 pub mod LastLines

@@ -3,7 +3,7 @@ use Prim.Native.Nat.{ℕ, suc, _+_, _-_, _≤_, _<_}
 use native.Mathlib.Nat.{zero-add}
 use native.Mathlib.Omega.{arith}
 use mathlib.Core.Path.{_≡_, refl, sym, ap, _∙_}
-use mathlib.Core.List.{List, [], _∷_, _++_}
+use mathlib.Core.List.{List, [], _∷_, _++_, append-assoc}
 use lib.ListN.{getD}
 use Rattle.model.specs.Below.{tab}
 use Rattle.model.specs.Text.{ascii, digits, spaced, line}
@@ -23,6 +23,11 @@ spaced-end = refl
 line-first : (w : List ℕ) (ws : List (List ℕ)) → line w ws ≡ w ++ spaced ws
 unfolding line
 line-first w ws = refl
+
+-- an event's line, each part with the byte after it
+pub four-parts : (a b c d : List ℕ) → line a (b ∷ c ∷ d ∷ []) ≡ (a ++ ascii " ") ++ ((b ++ ascii " ") ++ ((c ++ ascii " ") ++ (d ++ ascii "\n")))
+unfolding line spaced
+four-parts a b c d = simp append-assoc
 
 module _ {l : List ℕ} {at : ℕ} {whole out : List ℕ} {next : ℕ} where
   module _ (w : List ℕ) (ws : List (List ℕ)) where

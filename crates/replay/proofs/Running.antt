@@ -1,7 +1,7 @@
 -- The text of a file's events, chunk by chunk. Assumes nothing.
 use Prim.Native.Nat.{ℕ, _+_, _≤_}
 use native.Mathlib.Omega.{arith}
-use mathlib.Core.Path.{_≡_, sym, ap, _∙_}
+use mathlib.Core.Path.{_≡_, sym, ap, _∙_, subst}
 use mathlib.Core.Bool.{true}
 use mathlib.Core.List.{List, [], _++_}
 use mathlib.Core.Option.{none, some}
@@ -21,7 +21,7 @@ use Rattle.replay.specs.declared.play.Played.{Played}
 use Rattle.replay.specs.Puts.{Room}
 use Rattle.replay.specs.Lines.{endingOf}
 use Rattle.replay.specs.Codes.{callLines}
-use Rattle.replay.specs.Chunks.{chunk, Gathers}
+use Rattle.replay.specs.Chunks.{Gathers}
 use Rattle.replay.specs.Plays.{PlayPost}
 use Rattle.replay.specs.Runs.{textOf, RunPre}
 use Rattle.replay.proofs.Pending.{Pending, begin, say, room, step}
@@ -46,15 +46,19 @@ starts file out n at p =
       pending = say (tail-whole (view n) (readEvents file at)) (begin (p .room));
     }
 
+pub recount : {file l whole out : List ℕ} {n : Network} {at o p next : ℕ} → o ≡ p → Running file l whole out n at o next
+    → Running file l whole out n at p next
+recount {file} {l} {whole} {out} {n} {at} {next = next} = subst (λ o. Running file l whole out n at o next)
+
 -- the lists that a chunk lends
-module _ {file : List ℕ} {at : ℕ} {kinds arguments : List ℕ} {count at′ : ℕ} (g : Gathers file at kinds arguments count at′) where
+module _ {file : List ℕ} {at : ℕ} {kinds arguments : List ℕ} {most count at′ : ℕ} (g : Gathers file at most kinds arguments count at′) where
   pub kinds-lent : count ≡ length (take count kinds)
-  kinds-lent = sym (length-take-le count kinds (omega (arith, g .few, g .kinds-size)))
+  kinds-lent = sym (length-take-le count kinds (omega (arith, g .few, g .short, g .kinds-size)))
 
   pub arguments-lent : count ≡ length (take count arguments)
-  arguments-lent = sym (length-take-le count arguments (omega (arith, g .few, g .arguments-size)))
+  arguments-lent = sym (length-take-le count arguments (omega (arith, g .few, g .short, g .arguments-size)))
 
-  pub few-kinds : length (take count kinds) ≤ chunk
+  pub few-kinds : length (take count kinds) ≤ most
   few-kinds = omega (arith, kinds-lent, g .few)
 
   pub as-many : length (take count arguments) ≡ length (take count kinds)
@@ -74,7 +78,7 @@ module _ {file l whole out : List ℕ} {n : Network} {at ordinal next : ℕ} (ru
   pub within : ordinal ≤ fileMost
   within = omega (arith, run .counted, run .inside, run .short)
 
-  module _ {kinds arguments : List ℕ} {count at′ : ℕ} (g : Gathers file at kinds arguments count at′) where
+  module _ {kinds arguments : List ℕ} {most count at′ : ℕ} (g : Gathers file at most kinds arguments count at′) where
     -- the chunk's lines, then the rest
     chunk-first : tail ordinal (view n) (readEvents file at)
         ≡ callLines (view n) (take count kinds) (take count arguments) ordinal 0 (length (take count kinds))

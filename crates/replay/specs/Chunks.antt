@@ -6,13 +6,14 @@ use mathlib.Core.Option.{none, some}
 use lib.ListN.{length, getD}
 use Rattle.model.specs.Events.{Event}
 use Rattle.model.specs.File.{kind, argument, Reading, readEvents}
+use Rattle.replay.specs.Digits.{thousand}
 use Rattle.replay.specs.declared.chunk.Stop.{Stop}
 use Rattle.replay.specs.declared.chunk.Stop.the-variants.{More, End, Spoilt}
 use Rattle.replay.specs.declared.chunk.Gathered.{Gathered}
 
--- so many events are read before they are run
+-- at most so many events are read before they are run
 abbrev pub chunk : ℕ
-chunk = 256
+chunk = thousand
 
 -- events stand in two lists from index i on
 abbrev pub Stand : List Event → List ℕ → List ℕ → ℕ → Type 0
@@ -24,10 +25,11 @@ abbrev pub behind : List Event → Reading → Reading
 behind es r = record { events = es ++ r .events; spoilt = r .spoilt }
 
 -- so many events were read from a position on, up to the next one
-pub record Gathers (file : List ℕ) (from : ℕ) (kinds arguments : List ℕ) (count next : ℕ) : Type 0 where
+pub record Gathers (file : List ℕ) (from most : ℕ) (kinds arguments : List ℕ) (count next : ℕ) : Type 0 where
   pub events : List Event
   pub many : length events ≡ count
-  pub few : count ≤ chunk
+  pub few : count ≤ most
+  pub short : most ≤ chunk
   pub kinds-size : length kinds ≡ chunk
   pub arguments-size : length arguments ≡ chunk
   pub moved : from + count ≤ next
@@ -36,14 +38,14 @@ pub record Gathers (file : List ℕ) (from : ℕ) (kinds arguments : List ℕ) (
   pub reads : readEvents file from ≡ behind events (readEvents file next)
 
 -- why no more were
-abbrev pub Stopped : List ℕ → ℕ → ℕ → Stop → Type 0
-Stopped file count at More = count ≡ chunk
-Stopped file count at End = readEvents file at ≡ record { events = []; spoilt = none }
-Stopped file count at (Spoilt place) = readEvents file at ≡ record { events = []; spoilt = some place }
+abbrev pub Stopped : List ℕ → ℕ → ℕ → ℕ → Stop → Type 0
+Stopped file most count at More = count ≡ most
+Stopped file most count at End = readEvents file at ≡ record { events = []; spoilt = none }
+Stopped file most count at (Spoilt place) = readEvents file at ≡ record { events = []; spoilt = some place }
 
 abbrev pub stoppedAt : ℕ → ℕ → Stop → Gathered
 stoppedAt count next stop = record { count = count; next = next; stop = stop }
 
-pub record GatherPost (file : List ℕ) (from : ℕ) (kinds arguments : List ℕ) (r : Gathered) : Type 0 where
-  pub gathers : Gathers file from kinds arguments (r .count) (r .next)
-  pub stopped : Stopped file (r .count) (r .next) (r .stop)
+pub record GatherPost (file : List ℕ) (from most : ℕ) (kinds arguments : List ℕ) (r : Gathered) : Type 0 where
+  pub gathers : Gathers file from most kinds arguments (r .count) (r .next)
+  pub stopped : Stopped file most (r .count) (r .next) (r .stop)

@@ -1,11 +1,13 @@
 // Events read some at a time, so that the record's check is paid once for all of them.
+use crate::table::THOUSAND;
 use drillfile::Got;
 ghost use mathlib.Core.Path.{_≡_};
 ghost use Prim.Native.Nat.{_≤_};
 ghost use lib.ListN.{length};
 ghost use Rattle.replay.specs.Chunks.{chunk, stoppedAt, GatherPost};
 
-pub(crate) const CHUNK: usize = 256;
+// The ordinals of a chunk have the same thousands.
+pub(crate) const CHUNK: usize = THOUSAND;
 
 // Why no more events were read.
 pub(crate) enum Stop {
@@ -26,19 +28,20 @@ fn stopped(count: usize, next: usize, stop: Stop) -> Gathered
     Gathered { count, next, stop }
 }
 
-// The events from a position on, by kind and argument, until the lists are full.
+// At most so many events from a position on, by kind and argument.
 pub(crate) fn gather(
     file: &[u8],
     from: usize,
+    most: usize,
     kinds: &mut [u32; CHUNK],
     arguments: &mut [u32; CHUNK],
 ) -> Gathered
-    requires { ⌜ (from ≤ length (now file)) × (length (now kinds) ≡ chunk) × (length (now arguments) ≡ chunk) ⌝ }
-    ensures { λ r. ⌜ GatherPost (now (file .entry)) from (now (kinds .exit)) (now (arguments .exit)) r ⌝ }
+    requires { ⌜ (from ≤ length (now file)) × (most ≤ chunk) × (length (now kinds) ≡ chunk) × (length (now arguments) ≡ chunk) ⌝ }
+    ensures { λ r. ⌜ GatherPost (now (file .entry)) from most (now (kinds .exit)) (now (arguments .exit)) r ⌝ }
 {
     let mut at = from;
     let mut i: usize = 0;
-    while i < CHUNK {
+    while i < most {
         match drillfile::reader::next_at(file, at) {
             Got::Event {
                 kind,

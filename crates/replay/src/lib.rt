@@ -3,8 +3,11 @@ mod chunk;
 mod digits;
 mod fields;
 mod lines;
+mod numbers;
+mod parts;
 mod play;
 mod run;
+mod table;
 mod words;
 
 ghost use mathlib.Core.Path.{_≡_};
@@ -31,8 +34,9 @@ pub fn text(file: &[u8], out: &mut [u8; model::TEXT_MOST]) -> usize
     let header = drillfile::reader::header_of(file);
     let answer = header.answer;
     if answer != DONE {
-        return lines::refused(out, 0, fields::wide(answer), header.place);
+        return lines::refused(out, 0, numbers::wide(answer), header.place);
     }
     let next = header.next;
-    run::run(file, next.at, header.network, out)
+    let table = table::rows();
+    run::run(file, next.at, header.network, &table, out)
 }

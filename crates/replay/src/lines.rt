@@ -1,21 +1,25 @@
 // The lines of the text.
-use crate::digits::number;
 use crate::fields::count;
 use crate::fields::field;
-use crate::fields::packet;
-use crate::fields::way;
-use crate::fields::wide;
+use crate::numbers::million;
+use crate::numbers::wide;
+use crate::parts::answer;
+use crate::parts::packet;
+use crate::parts::way;
+use crate::table::TABLE;
 use crate::words::byte;
 use crate::words::word;
 use network::Network;
 ghost use mathlib.Core.List.{_++_};
 ghost use mathlib.Core.Option.{some};
-ghost use Prim.Native.Nat.{_≤_};
+ghost use mathlib.Core.Path.{_≡_};
+ghost use Prim.Native.Nat.{_≤_, _<_};
 ghost use lib.ListN.{length};
 ghost use Rattle.model.specs.Limits.{nodesMost};
 ghost use Rattle.model.specs.Text.{ascii, spoiltLine, refusedLine};
 ghost use Rattle.network.specs.View.{view};
 ghost use Rattle.replay.specs.Puts.{Room, Put};
+ghost use Rattle.replay.specs.Digits.{thousand, joined, digitRows};
 ghost use Rattle.replay.specs.Codes.{codeLine};
 ghost use Rattle.replay.specs.Lines.{row, endingOf};
 
@@ -26,19 +30,20 @@ pub(crate) const SPOILT: usize = 11;
 pub(crate) fn event(
     out: &mut [u8; model::TEXT_MOST],
     at: usize,
-    ordinal: usize,
-    answer: u32,
+    table: &[u8; TABLE],
+    thousands: usize,
+    rest: usize,
+    answered: u32,
     handled: u32,
     went: usize,
 ) -> usize
-    requires { ⌜ Room (now out) at (codeLine ordinal answer handled went) ⌝ }
-    ensures { λ r. ⌜ Put (now (out .entry)) at (codeLine ordinal answer handled went) r (now (out .exit)) ⌝ }
+    requires { ⌜ Room (now out) at (codeLine (joined thousands rest) answered handled went) × (now table ≡ digitRows) × (thousands < thousand) × (rest < thousand) ⌝ }
+    ensures { λ r. ⌜ Put (now (out .entry)) at (codeLine (joined thousands rest) answered handled went) r (now (out .exit)) ⌝ }
 {
-    let first = number(out, at, ordinal);
-    let second = count(out, first, answer);
-    let third = packet(out, second, handled);
-    let end = way(out, third, went);
-    byte(out, end, b'\n')
+    let first = million(out, at, table, thousands, rest);
+    let second = answer(out, first, answered);
+    let third = packet(out, second, table, handled);
+    way(out, third, table, went)
 }
 
 // A word and numbers.

@@ -1,12 +1,13 @@
 // A chunk's events, run by one burst and written line by line.
 use crate::chunk::CHUNK;
 use crate::lines::event;
+use crate::table::TABLE;
 use network::Network;
-ghost use Prim.Native.Nat.{_≤_};
-ghost use Rattle.model.specs.Limits.{fileMost};
+ghost use mathlib.Core.Path.{_≡_};
+ghost use Prim.Native.Nat.{_+_, _≤_, _<_};
 ghost use Rattle.replay.specs.Puts.{Room, Put};
+ghost use Rattle.replay.specs.Digits.{thousand, joined, digitRows};
 ghost use Rattle.replay.specs.Codes.{codeLines};
-ghost use Rattle.replay.specs.Chunks.{chunk};
 ghost use Rattle.replay.specs.Plays.{PlayPre, PlayPost};
 
 // The record after a chunk, and the position after its lines.
@@ -15,25 +16,36 @@ pub(crate) struct Played {
     pub next: usize,
 }
 
-// A line for each event of a chunk, by what the burst gave.
+// A line for each event of a chunk, by what the burst gave: their ordinals have the same thousands.
 fn lines<'a>(
     out: &mut [u8; model::TEXT_MOST],
     at: usize,
-    ordinal: usize,
+    table: &'a [u8; TABLE],
+    thousands: usize,
+    rest: usize,
     answers: &'a [u32; CHUNK],
     packets: &'a [u32; CHUNK],
     ways: &'a [usize; CHUNK],
     count: usize,
 ) -> usize
-    requires { ⌜ Room (now out) at (codeLines (now answers) (now packets) (now ways) ordinal 0 count) × (count ≤ chunk) × (ordinal ≤ fileMost) ⌝ }
-    ensures { λ r. ⌜ Put (now (out .entry)) at (codeLines (now (answers .entry)) (now (packets .entry)) (now (ways .entry)) ordinal 0 count) r (now (out .exit)) ⌝ }
+    requires { ⌜ Room (now out) at (codeLines (now answers) (now packets) (now ways) (joined thousands rest) 0 count) × (now table ≡ digitRows) × (thousands < thousand) × (rest + count ≤ thousand) ⌝ }
+    ensures { λ r. ⌜ Put (now (out .entry)) at (codeLines (now (answers .entry)) (now (packets .entry)) (now (ways .entry)) (joined thousands rest) 0 count) r (now (out .exit)) ⌝ }
 {
     let mut next = at;
     let mut i: usize = 0;
     while i < count {
         let k = i;
         i += 1;
-        next = event(out, next, ordinal + k, answers[k], packets[k], ways[k]);
+        next = event(
+            out,
+            next,
+            table,
+            thousands,
+            rest + k,
+            answers[k],
+            packets[k],
+            ways[k],
+        );
     }
     next
 }
@@ -41,20 +53,32 @@ fn lines<'a>(
 // The burst, then its lines: the record is checked once for the whole chunk.
 pub(crate) fn play<'a>(
     network: Network,
+    table: &'a [u8; TABLE],
     kinds: &'a [u32],
     arguments: &'a [u32],
-    ordinal: usize,
+    thousands: usize,
+    rest: usize,
     out: &mut [u8; model::TEXT_MOST],
     at: usize,
 ) -> Played
-    requires { ⌜ PlayPre network (now kinds) (now arguments) ordinal (now out) at ⌝ }
-    ensures { λ r. ⌜ PlayPost network (now (kinds .entry)) (now (arguments .entry)) ordinal (now (out .entry)) at (now (out .exit)) r ⌝ }
+    requires { ⌜ PlayPre network (now table) (now kinds) (now arguments) thousands rest (now out) at ⌝ }
+    ensures { λ r. ⌜ PlayPost network (now (kinds .entry)) (now (arguments .entry)) (joined thousands rest) (now (out .entry)) at (now (out .exit)) r ⌝ }
 {
     let mut answers = [0u32; CHUNK];
     let mut packets = [0u32; CHUNK];
     let mut ways = [0usize; CHUNK];
     let burst = network.burst(kinds, arguments, &mut answers, &mut packets, &mut ways);
-    let next = lines(out, at, ordinal, &answers, &packets, &ways, kinds.len());
+    let next = lines(
+        out,
+        at,
+        table,
+        thousands,
+        rest,
+        &answers,
+        &packets,
+        &ways,
+        kinds.len(),
+    );
     let network = burst.network;
     Played { network, next }
 }

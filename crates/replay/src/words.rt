@@ -10,6 +10,31 @@ pub(crate) fn byte(out: &mut [u8; model::TEXT_MOST], at: usize, b: u8) -> usize
     at + 1
 }
 
+pub(crate) fn two(out: &mut [u8; model::TEXT_MOST], at: usize, a: u8, b: u8) -> usize
+    requires { ⌜ Room (now out) at (a ∷ b ∷ []) ⌝ }
+    ensures { λ r. ⌜ Put (now (out .entry)) at (a ∷ b ∷ []) r (now (out .exit)) ⌝ }
+{
+    let next = byte(out, at, a);
+    byte(out, next, b)
+}
+
+pub(crate) fn three(out: &mut [u8; model::TEXT_MOST], at: usize, a: u8, b: u8, c: u8) -> usize
+    requires { ⌜ Room (now out) at (a ∷ b ∷ c ∷ []) ⌝ }
+    ensures { λ r. ⌜ Put (now (out .entry)) at (a ∷ b ∷ c ∷ []) r (now (out .exit)) ⌝ }
+{
+    let next = byte(out, at, a);
+    two(out, next, b, c)
+}
+
+// Four bytes that stand side by side elsewhere are one load and one store.
+pub(crate) fn four(out: &mut [u8; model::TEXT_MOST], at: usize, a: u8, b: u8, c: u8, d: u8) -> usize
+    requires { ⌜ Room (now out) at (a ∷ b ∷ c ∷ d ∷ []) ⌝ }
+    ensures { λ r. ⌜ Put (now (out .entry)) at (a ∷ b ∷ c ∷ d ∷ []) r (now (out .exit)) ⌝ }
+{
+    let next = byte(out, at, a);
+    three(out, next, b, c, d)
+}
+
 pub(crate) fn word(out: &mut [u8; model::TEXT_MOST], at: usize, w: &[u8]) -> usize
     requires { ⌜ Room (now out) at (now w) ⌝ }
     ensures { λ r. ⌜ Put (now (out .entry)) at (now (w .entry)) r (now (out .exit)) ⌝ }

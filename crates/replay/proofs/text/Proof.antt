@@ -56,9 +56,12 @@ returns-2 c =
     (at-wide .wide .ensures) (at-two .if2 .taken))
     (c .refused2 .ensures))
 
+rows-requires : tie.Need-rows-requires
+rows-requires c κs = search needs
+
 run-requires : tie.Need-run-requires
 run-requires c κs =
-    let at-two = c .before .before in
+    let at-two = c .before .before .before .before in
     let at-header = at-two .before in
     let at-if = at-header .before in
     let at-size = at-if .before .before in
@@ -66,11 +69,11 @@ run-requires c κs =
     let size = at-size .size-arg2 .given .0 in
     let r = at-header .header-of .result in
     let post = at-header .header-of .ensures in
-    runs (now (a .file)) (now (a .out)) size (at-if .if1 .left) r post (at-two .if2 .left)
+    (runs (now (a .file)) (now (a .out)) size (at-if .if1 .left) r post (at-two .if2 .left), c .before .before .rows .ensures)
 
 returns-3 : tie.Need-returns-3
 returns-3 c =
-    let at-two = c .before .before .before in
+    let at-two = c .before .before .before .before .before in
     let at-header = at-two .before in
     let at-if = at-header .before in
     let at-size = at-if .before .before in
@@ -93,5 +96,6 @@ text-spec =
     wide-requires
     refused-requires-2
     returns-2
+    rows-requires
     run-requires
     returns-3)

@@ -6,22 +6,22 @@ use denote.Ref.{now}
 use borrow.Author.Needs.{needs}
 use Rattle.drillfile.specs.Outcomes.{seen}
 use Rattle.replay.specs.declared.chunk.Stop.the-variants.{More, End, Spoilt}
-use Rattle.replay.specs.Chunks.{chunk, Gathers}
+use Rattle.replay.specs.Chunks.{Gathers}
 use Rattle.replay.proofs.Chunks.{gathers-none, gathers-more, reads-end, reads-spoilt, gathered}
 use Rattle.replay.proofs.chunk.gather.Statement.{statement}
 use Rattle.replay.proofs.chunk.gather.Tie as tie
 
 abbrev Inv-loop : tie.InvT-loop
-Inv-loop file from kinds₀ arguments₀ at₀ i₀ kinds arguments at i = Gathers file from kinds arguments i at
+Inv-loop file from most kinds₀ arguments₀ at₀ i₀ kinds arguments at i = Gathers file from most kinds arguments i at
 
 abbrev μ-loop : tie.MeasureT-loop
-μ-loop file from kinds₀ arguments₀ at₀ i₀ kinds arguments at i = chunk - i
+μ-loop file from most kinds₀ arguments₀ at₀ i₀ kinds arguments at i = most - i
 
 loop-holds : tie.Need-loop-holds Inv-loop μ-loop
 loop-holds c =
     let start = c .before in
-    gathers-none (now (start .args .file)) (start .args .from) (now (start .args .kinds)) (now (start .args .arguments)) (start .pre .0)
-    (start .pre .1) (start .pre .2)
+    gathers-none (now (start .args .file)) (start .args .from) (start .args .most) (now (start .args .kinds)) (now (start .args .arguments))
+    (start .pre .0) (start .pre .1) (start .pre .2) (start .pre .3)
 
 next-at-requires : tie.Need-next-at-requires Inv-loop μ-loop
 next-at-requires c κs = search needs
@@ -54,7 +54,7 @@ loop-again c =
     let test = at-read .before in
     let loop = test .before in
     let start = loop .before .before in
-    gathers-more (now (start .args .file)) (start .args .from) _ _ _ _ _ _ _ (loop .loop .inv) (test .loop-test .taken)
+    gathers-more (now (start .args .file)) (start .args .from) (start .args .most) _ _ _ _ _ _ _ (loop .loop .inv) (test .loop-test .taken)
     (ap seen (sym (at-kind .kind .given .1)) ∙ at-read .next-at .ensures)
 
 enum-told : tie.Need-enum-told Inv-loop μ-loop

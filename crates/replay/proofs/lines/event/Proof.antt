@@ -1,55 +1,45 @@
--- The ordinal, the answer, the packet, the way, the newline. Assumes nothing.
-use Rattle.replay.proofs.Pending.{begin}
-use Rattle.replay.proofs.LineParts.{room-first, step-first, room-field, step-field, room-end, last-end}
+-- The ordinal, the answer, the packet, the way. Assumes nothing.
+use Rattle.replay.proofs.Pending.{begin, say, room, step, room-all, last}
+use Rattle.replay.proofs.LineParts.{four-parts}
 use Rattle.replay.proofs.lines.event.Statement.{statement}
 use Rattle.replay.proofs.lines.event.Tie as tie
 
-number-requires : tie.Need-number-requires
-number-requires c κs = room-first _ _ (begin (c .before .pre))
+million-requires : tie.Need-million-requires
+million-requires c κs =
+    let pre = c .before .pre in
+    (room _ _ (say (four-parts _ _ _ _) (begin (pre .0))), pre .1, pre .2, pre .3)
 
-count-requires : tie.Need-count-requires
-count-requires c κs =
+answer-requires : tie.Need-answer-requires
+answer-requires c κs =
     let at-number = c .before in
-    room-field _ _ (step-first _ _ (begin (at-number .before .before .pre)) (at-number .number .ensures))
+    room _ _ (step _ _ (say (four-parts _ _ _ _) (begin (at-number .before .before .pre .0))) (at-number .million .ensures))
 
 packet-requires : tie.Need-packet-requires
 packet-requires c κs =
-    let at-count = c .before in
-    let at-number = at-count .before .before in
-    let one = step-first _ _ (begin (at-number .before .before .pre)) (at-number .number .ensures) in
-    room-field _ _ (step-field _ _ one (at-count .count .ensures))
+    let at-answer = c .before in
+    let at-number = at-answer .before .before in
+    let pre = at-number .before .before .pre in
+    let one = step _ _ (say (four-parts _ _ _ _) (begin (pre .0))) (at-number .million .ensures) in
+    (room _ _ (step _ _ one (at-answer .answer .ensures)), pre .1)
 
 way-requires : tie.Need-way-requires
 way-requires c κs =
     let at-packet = c .before in
-    let at-count = at-packet .before .before in
-    let at-number = at-count .before .before in
-    let one = step-first _ _ (begin (at-number .before .before .pre)) (at-number .number .ensures) in
-    let two = step-field _ _ one (at-count .count .ensures) in
-    room-field _ _ (step-field _ _ two (at-packet .packet .ensures))
-
-byte-requires : tie.Need-byte-requires
-byte-requires c κs =
-    let at-way = c .before in
-    let at-packet = at-way .before .before in
-    let at-count = at-packet .before .before in
-    let at-number = at-count .before .before in
-    let one = step-first _ _ (begin (at-number .before .before .pre)) (at-number .number .ensures) in
-    let two = step-field _ _ one (at-count .count .ensures) in
-    let three = step-field _ _ two (at-packet .packet .ensures) in
-    room-end (step-field _ _ three (at-way .way .ensures))
+    let at-answer = at-packet .before .before in
+    let at-number = at-answer .before .before in
+    let pre = at-number .before .before .pre in
+    let one = step _ _ (say (four-parts _ _ _ _) (begin (pre .0))) (at-number .million .ensures) in
+    let two = step _ _ one (at-answer .answer .ensures) in
+    (room-all (step _ _ two (at-packet .packet .ensures)), pre .1)
 
 returns : tie.Need-returns
 returns c =
-    let at-way = c .before .before in
-    let at-packet = at-way .before .before in
-    let at-count = at-packet .before .before in
-    let at-number = at-count .before .before in
-    let one = step-first _ _ (begin (at-number .before .before .pre)) (at-number .number .ensures) in
-    let two = step-field _ _ one (at-count .count .ensures) in
-    let three = step-field _ _ two (at-packet .packet .ensures) in
-    last-end (step-field _ _ three (at-way .way .ensures)) (c .byte .ensures)
+    let at-packet = c .before .before in
+    let at-answer = at-packet .before .before in
+    let at-number = at-answer .before .before in
+    let one = step _ _ (say (four-parts _ _ _ _) (begin (at-number .before .before .pre .0))) (at-number .million .ensures) in
+    let two = step _ _ one (at-answer .answer .ensures) in
+    last (step _ _ two (at-packet .packet .ensures)) (c .way .ensures)
 
 pub event-spec : {M : Type 1} → statement M
-event-spec =
-    tie.close (tie.spec number-requires count-requires packet-requires way-requires byte-requires returns)
+event-spec = tie.close (tie.spec million-requires answer-requires packet-requires way-requires returns)

@@ -3,24 +3,26 @@ use Prim.Native.Nat.{_+_, _-_, _≤_}
 use native.Mathlib.Omega.{arith}
 use denote.Ref.{now}
 use borrow.Author.Needs.{needs}
+use Rattle.replay.specs.Digits.{joined}
 use Rattle.replay.specs.Codes.{codeLines}
-use Rattle.replay.proofs.Pending.{Pending, begin, say, room, step, finish}
-use Rattle.replay.proofs.ChunkLines.{lines-more, lines-none, lines-all}
+use Rattle.replay.proofs.Pending.{Pending, begin, say, finish}
+use Rattle.replay.proofs.ChunkLines.{lines-none, lines-all, room-line, step-line}
 use Rattle.replay.proofs.play.lines.Statement.{statement}
 use Rattle.replay.proofs.play.lines.Tie as tie
 
 abbrev Inv-loop : tie.InvT-loop
-Inv-loop out₀ at ordinal answers packets ways count next₀ i₀ out next i =
+Inv-loop out₀ at table thousands rest answers packets ways count next₀ i₀ out next i =
     (i ≤ count)
-    × Pending out₀ at (codeLines answers packets ways ordinal 0 count) out next (codeLines answers packets ways (ordinal + i) i (count - i))
+    × Pending out₀ at (codeLines answers packets ways (joined thousands rest) 0 count) out next
+    (codeLines answers packets ways (joined thousands rest + i) i (count - i))
 
 abbrev μ-loop : tie.MeasureT-loop
-μ-loop out₀ at ordinal answers packets ways count next₀ i₀ out next i = count - i
+μ-loop out₀ at table thousands rest answers packets ways count next₀ i₀ out next i = count - i
 
 loop-holds : tie.Need-loop-holds Inv-loop μ-loop
 loop-holds c =
     let a = c .args in
-    (omega arith, say (lines-all (now (a .answers)) (now (a .packets)) (now (a .ways)) (a .ordinal) (a .count)) (begin (c .pre .0)))
+    (omega arith, say (lines-all (now (a .answers)) (now (a .packets)) (now (a .ways)) (joined (a .thousands) (a .rest)) (a .count)) (begin (c .pre .0)))
 
 add-i : tie.Need-add-i Inv-loop μ-loop
 add-i c = search needs
@@ -50,9 +52,15 @@ event-requires : tie.Need-event-requires Inv-loop μ-loop
 event-requires c κs =
     let test = c .before .before .before .before in
     let at-loop = test .before in
-    let a = at-loop .before .args in
-    let here = lines-more (now (a .answers)) (now (a .packets)) (now (a .ways)) (a .ordinal) (at-loop .loop .i) (a .count) (test .loop-test .taken) in
-    room _ _ (say here (at-loop .loop .inv .1))
+    let start = at-loop .before in
+    let a = start .args in
+    let k = at-loop .loop .i in
+    let more = test .loop-test .taken in (
+      room-line (now (a .answers)) (now (a .packets)) (now (a .ways)) (a .thousands) (a .rest) k (a .count) more (at-loop .loop .inv .1),
+      start .pre .1,
+      start .pre .2,
+      omega (arith, start .pre .3, more),
+    )
 
 loop-less : tie.Need-loop-less Inv-loop μ-loop
 loop-less c = omega (arith, c .before .before .before .before .before .loop-test .taken)
@@ -62,14 +70,18 @@ loop-again c =
     let test = c .before .before .before .before .before in
     let at-loop = test .before in
     let a = at-loop .before .args in
-    let here = lines-more (now (a .answers)) (now (a .packets)) (now (a .ways)) (a .ordinal) (at-loop .loop .i) (a .count) (test .loop-test .taken) in
-    (omega (arith, test .loop-test .taken), step _ _ (say here (at-loop .loop .inv .1)) (c .event .ensures))
+    let k = at-loop .loop .i in
+    let more = test .loop-test .taken in (
+      omega (arith, more),
+      step-line (now (a .answers)) (now (a .packets)) (now (a .ways)) (a .thousands) (a .rest) k (a .count) more (at-loop .loop .inv .1)
+          (c .event .ensures),
+    )
 
 returns : tie.Need-returns Inv-loop μ-loop
 returns c =
     let at-loop = c .before in
     let a = at-loop .before .args in
-    finish (lines-none (now (a .answers)) (now (a .packets)) (now (a .ways)) (a .ordinal) (at-loop .loop .i) (a .count) (c .loop-test .left)) (at-loop .loop .inv .1)
+    finish (lines-none (now (a .answers)) (now (a .packets)) (now (a .ways)) (joined (a .thousands) (a .rest)) (at-loop .loop .i) (a .count) (c .loop-test .left)) (at-loop .loop .inv .1)
 
 pub lines-spec : {M : Type 1} → statement M
 lines-spec =

@@ -1,6 +1,7 @@
 -- The burst, then its lines. Assumes nothing.
 use native.Mathlib.Omega.{arith}
 use borrow.Author.Needs.{needs}
+use Rattle.replay.specs.Digits.{joined}
 use Rattle.replay.proofs.Pending.{begin, say, room-all, last}
 use Rattle.replay.proofs.Played.{played-state, played-lines}
 use Rattle.replay.proofs.play.play.Statement.{statement}
@@ -23,8 +24,8 @@ lines-requires c κs =
     let at-burst = c .before .before .before .before .before .before .before in
     let start = at-burst .before .before .before .before .before .before in
     let pre = start .pre in
-    let lines = played-lines (at-burst .burst .ensures) (pre .few) (pre .same) (omega arith, omega arith, omega arith) (pre .formed) (start .args .ordinal) in
-    (room-all (say lines (begin (pre .room))), pre .few, pre .early)
+    let lines = played-lines (at-burst .burst .ensures) (omega (arith, pre .few)) (pre .same) (omega arith, omega arith, omega arith) (pre .formed) (joined (start .args .thousands) (start .args .rest)) in
+    (room-all (say lines (begin (pre .room))), pre .rows, pre .early, pre .few)
 
 returns : tie.Need-returns
 returns c =
@@ -32,9 +33,9 @@ returns c =
     let at-burst = at-lines .before .before .before .before .before .before .before .before in
     let start = at-burst .before .before .before .before .before .before in
     let pre = start .pre in
-    let lines = played-lines (at-burst .burst .ensures) (pre .few) (pre .same) (omega arith, omega arith, omega arith) (pre .formed) (start .args .ordinal) in
+    let lines = played-lines (at-burst .burst .ensures) (omega (arith, pre .few)) (pre .same) (omega arith, omega arith, omega arith) (pre .formed) (joined (start .args .thousands) (start .args .rest)) in
     record {
-      state = played-state (at-burst .burst .ensures) (pre .few) (pre .same) (omega arith, omega arith, omega arith);
+      state = played-state (at-burst .burst .ensures) (omega (arith, pre .few)) (pre .same) (omega arith, omega arith, omega arith);
       written = last (say lines (begin (pre .room))) (at-lines .lines .ensures);
     }
 

@@ -1,19 +1,22 @@
 -- By the way that the code stands for. Assumes nothing.
+use native.Mathlib.Omega.{arith}
 use borrow.Author.Needs.{needs}
 use Rattle.replay.proofs.Pending.{begin, say, room-all, last}
 use Rattle.replay.proofs.CodeWords.{way-lane, way-in, way-lost, way-end, way-none}
-use Rattle.replay.proofs.fields.way.Statement.{statement}
-use Rattle.replay.proofs.fields.way.Tie as tie
+use Rattle.replay.proofs.parts.way.Statement.{statement}
+use Rattle.replay.proofs.parts.way.Tie as tie
 
-field-requires : tie.Need-field-requires
-field-requires c κs =
+small-requires : tie.Need-small-requires
+small-requires c κs =
     let test = c .before in
-    room-all (say (way-lane (test .before .args .code) (test .if1 .taken)) (begin (test .before .pre)))
+    let start = test .before in
+    (room-all (say (way-lane (start .args .code) (test .if1 .taken)) (begin (start .pre .0))), start .pre .1, omega (arith, test .if1 .taken))
 
 returns : tie.Need-returns
 returns c =
     let test = c .before .before in
-    last (say (way-lane (test .before .args .code) (test .if1 .taken)) (begin (test .before .pre))) (c .field .ensures)
+    let start = test .before in
+    last (say (way-lane (start .args .code) (test .if1 .taken)) (begin (start .pre .0))) (c .small .ensures)
 
 slice-aggregate-word : tie.Need-slice-aggregate-word
 slice-aggregate-word c = search needs
@@ -22,13 +25,13 @@ word-requires : tie.Need-word-requires
 word-requires c κs =
     let test = c .before .before in
     let start = test .before .before in
-    room-all (say (way-in (start .args .code) (test .if2 .taken)) (begin (start .pre)))
+    room-all (say (way-in (start .args .code) (test .if2 .taken)) (begin (start .pre .0)))
 
 returns-2 : tie.Need-returns-2
 returns-2 c =
     let test = c .before .before .before in
     let start = test .before .before in
-    last (say (way-in (start .args .code) (test .if2 .taken)) (begin (start .pre))) (c .word .ensures)
+    last (say (way-in (start .args .code) (test .if2 .taken)) (begin (start .pre .0))) (c .word .ensures)
 
 add-if3 : tie.Need-add-if3
 add-if3 c = search needs
@@ -40,13 +43,13 @@ word-requires-2 : tie.Need-word-requires-2
 word-requires-2 c κs =
     let test = c .before .before in
     let start = test .before .before .before in
-    room-all (say (way-lost (start .args .code) (test .if3 .taken)) (begin (start .pre)))
+    room-all (say (way-lost (start .args .code) (test .if3 .taken)) (begin (start .pre .0)))
 
 returns-3 : tie.Need-returns-3
 returns-3 c =
     let test = c .before .before .before in
     let start = test .before .before .before in
-    last (say (way-lost (start .args .code) (test .if3 .taken)) (begin (start .pre))) (c .word2 .ensures)
+    last (say (way-lost (start .args .code) (test .if3 .taken)) (begin (start .pre .0))) (c .word2 .ensures)
 
 add-if4 : tie.Need-add-if4
 add-if4 c = search needs
@@ -58,13 +61,13 @@ word-requires-3 : tie.Need-word-requires-3
 word-requires-3 c κs =
     let test = c .before .before in
     let start = test .before .before .before .before in
-    room-all (say (way-end (start .args .code) (test .if4 .taken)) (begin (start .pre)))
+    room-all (say (way-end (start .args .code) (test .if4 .taken)) (begin (start .pre .0)))
 
 returns-4 : tie.Need-returns-4
 returns-4 c =
     let test = c .before .before .before in
     let start = test .before .before .before .before in
-    last (say (way-end (start .args .code) (test .if4 .taken)) (begin (start .pre))) (c .word3 .ensures)
+    last (say (way-end (start .args .code) (test .if4 .taken)) (begin (start .pre .0))) (c .word3 .ensures)
 
 slice-aggregate-word-4 : tie.Need-slice-aggregate-word-4
 slice-aggregate-word-4 c = search needs
@@ -77,7 +80,7 @@ word-requires-4 c κs =
     let at-if1 = at-if2 .before in
     let start = at-if1 .before in
     let none = way-none (start .args .code) (at-if1 .if1 .left) (at-if2 .if2 .left) (at-if3 .if3 .left) (at-if4 .if4 .left) in
-    room-all (say none (begin (start .pre)))
+    room-all (say none (begin (start .pre .0)))
 
 returns-5 : tie.Need-returns-5
 returns-5 c =
@@ -87,13 +90,13 @@ returns-5 c =
     let at-if1 = at-if2 .before in
     let start = at-if1 .before in
     let none = way-none (start .args .code) (at-if1 .if1 .left) (at-if2 .if2 .left) (at-if3 .if3 .left) (at-if4 .if4 .left) in
-    last (say none (begin (start .pre))) (c .word4 .ensures)
+    last (say none (begin (start .pre .0))) (c .word4 .ensures)
 
 pub way-spec : {M : Type 1} → statement M
 way-spec =
     tie.close
     (tie.spec
-    field-requires
+    small-requires
     returns
     slice-aggregate-word
     word-requires

@@ -1,0 +1,126 @@
+// Numbers by the table, each with the byte after it.
+use crate::digits::digit;
+use crate::digits::number;
+use crate::table::TABLE;
+use crate::table::WIDE;
+use crate::words::byte;
+use crate::words::four;
+use crate::words::three;
+use crate::words::two;
+ghost use mathlib.Core.Path.{_≡_};
+ghost use mathlib.Core.List.{[], _∷_, _++_};
+ghost use Prim.Native.Nat.{_≤_, _<_};
+ghost use lib.ListN.{length};
+ghost use lib.Seq.{sets};
+ghost use Rattle.model.specs.Text.{ascii, digits};
+ghost use Rattle.replay.specs.Puts.{Room, Put};
+ghost use Rattle.replay.specs.Digits.{thousand, joined, front, back, digitRows};
+
+// A byte as a number of the text.
+fn plain(x: u8) -> usize
+    ensures { λ r. ⌜ r ≡ x ⌝ }
+{
+    x as usize
+}
+
+// A count as a number of the text.
+pub(crate) fn wide(x: u32) -> usize
+    ensures { λ r. ⌜ r ≡ x ⌝ }
+{
+    x as usize
+}
+
+// A number below a thousand.
+pub(crate) fn small(
+    out: &mut [u8; model::TEXT_MOST],
+    at: usize,
+    table: &[u8; TABLE],
+    n: usize,
+    after: u8,
+) -> usize
+    requires { ⌜ Room (now out) at (digits n ++ after ∷ []) × (now table ≡ digitRows) × (n < thousand) ⌝ }
+    ensures { λ r. ⌜ Put (now (out .entry)) at (digits n ++ after ∷ []) r (now (out .exit)) ⌝ }
+{
+    if n < 10 {
+        return two(out, at, digit(n), after);
+    }
+    let row = WIDE * n;
+    if n < 100 {
+        return three(out, at, table[row], table[row + 1], after);
+    }
+    four(out, at, table[row], table[row + 1], table[row + 2], after)
+}
+
+// The first half of a row; how many of its bytes are digits.
+fn high(out: &mut [u8; model::TEXT_MOST], at: usize, table: &[u8; TABLE], n: usize) -> usize
+    requires { ⌜ Room (now out) at (front n) × (now table ≡ digitRows) × (n < thousand) ⌝ }
+    ensures { λ r. ⌜ (r ≡ length (digits n)) × (now (out .exit) ≡ sets (now (out .entry)) at (front n)) ⌝ }
+{
+    let row = WIDE * n;
+    four(
+        out,
+        at,
+        table[row],
+        table[row + 1],
+        table[row + 2],
+        table[row + 3],
+    );
+    plain(table[row + 3])
+}
+
+// The other half: three digits and a space.
+fn low(out: &mut [u8; model::TEXT_MOST], at: usize, table: &[u8; TABLE], n: usize) -> usize
+    requires { ⌜ Room (now out) at (back n) × (now table ≡ digitRows) × (n < thousand) ⌝ }
+    ensures { λ r. ⌜ Put (now (out .entry)) at (back n) r (now (out .exit)) ⌝ }
+{
+    let row = WIDE * n + 4;
+    four(
+        out,
+        at,
+        table[row],
+        table[row + 1],
+        table[row + 2],
+        table[row + 3],
+    )
+}
+
+// A number from a thousand on: the low half is stored over what stands after the high digits, so no branch asks how many.
+fn large(
+    out: &mut [u8; model::TEXT_MOST],
+    at: usize,
+    table: &[u8; TABLE],
+    thousands: usize,
+    rest: usize,
+) -> usize
+    requires { ⌜ Room (now out) at (digits (joined thousands rest) ++ ascii " ") × (now table ≡ digitRows) × (0 < thousands) × (thousands < thousand) × (rest < thousand) ⌝ }
+    ensures { λ r. ⌜ Put (now (out .entry)) at (digits (joined thousands rest) ++ ascii " ") r (now (out .exit)) ⌝ }
+{
+    let digits = high(out, at, table, thousands);
+    low(out, at + digits, table, rest)
+}
+
+// A number below a million by its thousands, and a space.
+pub(crate) fn million(
+    out: &mut [u8; model::TEXT_MOST],
+    at: usize,
+    table: &[u8; TABLE],
+    thousands: usize,
+    rest: usize,
+) -> usize
+    requires { ⌜ Room (now out) at (digits (joined thousands rest) ++ ascii " ") × (now table ≡ digitRows) × (thousands < thousand) × (rest < thousand) ⌝ }
+    ensures { λ r. ⌜ Put (now (out .entry)) at (digits (joined thousands rest) ++ ascii " ") r (now (out .exit)) ⌝ }
+{
+    if thousands == 0 {
+        return small(out, at, table, rest, b' ');
+    }
+    large(out, at, table, thousands, rest)
+}
+
+// Any number, and a space.
+pub(crate) fn any(out: &mut [u8; model::TEXT_MOST], at: usize, n: u32) -> usize
+    requires { ⌜ Room (now out) at (digits n ++ ascii " ") ⌝ }
+    ensures { λ r. ⌜ Put (now (out .entry)) at (digits n ++ ascii " ") r (now (out .exit)) ⌝ }
+{
+    let next = number(out, at, wide(n));
+    byte(out, next, b' ')
+}
