@@ -12,7 +12,7 @@ use lib.Seq.{sets, length-sets, getD-append-add}
 use borrow.Author.Tests.{lt-ltb, le-ltb}
 use Rattle.model.specs.Text.{digits}
 use Rattle.drillfile.proofs.Stores.{sets-append, sets-front}
-use Rattle.replay.specs.Digits.{lastDigit, thousand, wide, tableSize, front, back, rowOf, rowsBelow, digitRows}
+use Rattle.replay.specs.Digits.{lastDigit, thousand, wide, tableSize, front, back, rowOf, rowsBelow, digitRows, halfAt}
 use Rattle.replay.proofs.Decimals.{one-digit, two-digits, three-digits}
 
 pub four-are : {a b c d a′ b′ c′ d′ : ℕ} → a ≡ a′ → b ≡ b′ → c ≡ c′ → d ≡ d′ → _≡_ {A = List ℕ} (a ∷ b ∷ c ∷ d ∷ []) (a′ ∷ b′ ∷ c′ ∷ d′ ∷ [])
@@ -135,7 +135,7 @@ module _ {t : List ℕ} (e : t ≡ digitRows) (n : ℕ) (h : n < thousand) where
       ∙ ap (λ (m : ℕ). getD (rowOf n) m 0) i
       ∙ getD-append-add (front n) (back n) j 0
 
-  pub front-bytes : getD t (wide * n) 0 ∷ getD t (wide * n + 1) 0 ∷ getD t (wide * n + 2) 0 ∷ getD t (wide * n + 3) 0 ∷ [] ≡ front n
+  pub front-bytes : halfAt t (wide * n) ≡ front n
   front-bytes =
       four-are at-start (at-front 1 (omega arith)) (at-front 2 (omega arith)) (at-front 3 (omega arith)) ∙ four-of (front n) (front-is n h .four)
 
@@ -145,7 +145,7 @@ module _ {t : List ℕ} (e : t ≡ digitRows) (n : ℕ) (h : n < thousand) where
   back-byte : (i j : ℕ) → j < 4 → i ≡ wide * n + (4 + j) → getD t i 0 ≡ getD (back n) j 0
   back-byte i j l p = ap (λ (m : ℕ). getD t m 0) p ∙ at-back j l
 
-  pub back-bytes : getD t (wide * n + 4) 0 ∷ getD t (wide * n + 4 + 1) 0 ∷ getD t (wide * n + 4 + 2) 0 ∷ getD t (wide * n + 4 + 3) 0 ∷ [] ≡ back n
+  pub back-bytes : halfAt t (wide * n + 4) ≡ back n
   back-bytes =
       four-are (back-byte (wide * n + 4) 0 (omega arith) (omega arith)) (back-byte (wide * n + 4 + 1) 1 (omega arith) (omega arith))
       (back-byte (wide * n + 4 + 2) 2 (omega arith) (omega arith)) (back-byte (wide * n + 4 + 3) 3 (omega arith) (omega arith))

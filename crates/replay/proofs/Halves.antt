@@ -1,17 +1,17 @@
 -- A number by its thousands and the rest, and a space: two halves of rows, the second stored over the end of the first. Assumes nothing.
-use Prim.Native.Nat.{ℕ, _+_, _≤_, _<_}
+use Prim.Native.Nat.{ℕ, _+_, _*_, _≤_, _<_}
 use native.Mathlib.Omega.{arith}
 use mathlib.Core.Path.{_≡_, sym, ap, _∙_}
 use mathlib.Core.List.{List, [], _∷_, _++_, append-assoc}
-use lib.ListN.{length, length-append}
+use lib.ListN.{length, getD, length-append}
 use lib.Seq.{sets, length-sets}
 use Rattle.model.specs.Limits.{textMost}
 use Rattle.model.specs.Text.{ascii, digits}
 use Rattle.replay.specs.Puts.{Room, Put}
-use Rattle.replay.specs.Digits.{thousand, joined, front, back}
+use Rattle.replay.specs.Digits.{thousand, joined, wide, front, back, digitRows, halfAt}
 use Rattle.replay.proofs.Decimals.{lastThree, joined-digits}
 use Rattle.replay.proofs.Over.{sets-over}
-use Rattle.replay.proofs.DigitRows.{front-is}
+use Rattle.replay.proofs.DigitRows.{front-is, front-bytes, front-count, back-bytes}
 
 pub no-thousands : (thousands rest : ℕ) → thousands ≡ 0 → digits (joined thousands rest) ++ ascii " " ≡ digits rest ++ 32 ∷ []
 unfolding ascii
@@ -19,36 +19,44 @@ no-thousands thousands rest z =
     let e : joined thousands rest ≡ rest = omega arith in
     ap (λ n. digits n ++ ascii " ") e
 
-module _ (thousands rest : ℕ) (p : 0 < thousands) (q : thousands < thousand) (s : rest < thousand) where
+module _ {table : List ℕ} (rows : table ≡ digitRows) (thousands rest : ℕ) (p : thousands ≡ 0 → ⊥) (q : thousands < thousand) (s : rest < thousand) where
   two-halves : digits (joined thousands rest) ++ ascii " " ≡ digits thousands ++ back rest
   unfolding ascii
   two-halves =
-      ap (λ x. x ++ ascii " ") (joined-digits thousands rest p s) ∙ append-assoc (digits thousands) (lastThree rest) (ascii " ")
+      ap (λ x. x ++ ascii " ") (joined-digits thousands rest (omega arith) s) ∙ append-assoc (digits thousands) (lastThree rest) (ascii " ")
 
   long : length (digits (joined thousands rest) ++ ascii " ") ≡ length (digits thousands) + 4
   long = ap length two-halves ∙ length-append (digits thousands) (back rest)
 
   module _ {l : List ℕ} {at : ℕ} (room : Room l at (digits (joined thousands rest) ++ ascii " ")) where
-    pub high-room : Room l at (front thousands)
-    high-room = record { size = room .size; fits = omega (arith, room .fits, long, front-is thousands q .four) }
+    pub first-room : Room l at (halfAt table (wide * thousands))
+    first-room = record { size = room .size; fits = omega (arith, room .fits, long) }
 
-    pub high-fits : at + length (digits thousands) ≤ textMost
-    high-fits = omega (arith, room .fits, long)
+    module _ {m : List ℕ} {r count : ℕ} (w : Put l at (halfAt table (wide * thousands)) r m) (k : count ≡ getD table (wide * thousands + 3) 0) where
+      counted : count ≡ length (digits thousands)
+      counted = k ∙ front-count rows thousands q
 
-    module _ {m : List ℕ} {count : ℕ} (k : count ≡ length (digits thousands)) (e : m ≡ sets l at (front thousands)) where
-      pub low-room : Room m (at + count) (back rest)
-      low-room =
-          record { size = ap length e ∙ length-sets l at (front thousands) ∙ room .size; fits = omega (arith, room .fits, long, k) }
+      pub second-fits : at + count ≤ textMost
+      second-fits = omega (arith, room .fits, long, counted)
 
-      pub both-put : {next : ℕ} {o : List ℕ} → Put m (at + count) (back rest) next o
-          → Put l at (digits (joined thousands rest) ++ ascii " ") next o
-      both-put w =
-          let f = front-is thousands q in
+      pub second-room : Room m (at + count) (halfAt table (wide * rest + 4))
+      second-room =
           record {
-            next = omega (arith, w .next, long, k);
-            stores = w .stores
-                ∙ ap (λ x. sets x (at + count) (back rest)) (e ∙ ap (sets l at) (f .whole))
-                ∙ ap (λ i. sets (sets l at (digits thousands ++ f .fill)) (at + i) (back rest)) k
+            size = ap length (w .stores) ∙ length-sets l at (halfAt table (wide * thousands)) ∙ room .size;
+            fits = omega (arith, room .fits, long, counted);
+          }
+
+      pub both-put : {next : ℕ} {o : List ℕ} → Put m (at + count) (halfAt table (wide * rest + 4)) next o
+          → Put l at (digits (joined thousands rest) ++ ascii " ") next o
+      both-put v =
+          let f = front-is thousands q in
+          let first = front-bytes rows thousands q ∙ f .whole in
+          record {
+            next = omega (arith, v .next, long, counted);
+            stores = v .stores
+                ∙ ap (sets m (at + count)) (back-bytes rows rest s)
+                ∙ ap (λ x. sets x (at + count) (back rest)) (w .stores ∙ ap (sets l at) first)
+                ∙ ap (λ i. sets (sets l at (digits thousands ++ f .fill)) (at + i) (back rest)) counted
                 ∙ sets-over (digits thousands) (f .fill) (back rest) l at (omega (arith, f .short))
                 ∙ ap (sets l at) (sym two-halves);
           }

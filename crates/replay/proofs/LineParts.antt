@@ -2,7 +2,7 @@
 use Prim.Native.Nat.{ℕ, suc, _+_, _-_, _≤_, _<_}
 use native.Mathlib.Nat.{zero-add}
 use native.Mathlib.Omega.{arith}
-use mathlib.Core.Path.{_≡_, refl, sym, ap, _∙_}
+use mathlib.Core.Path.{_≡_, refl, sym, ap, _∙_, subst}
 use mathlib.Core.List.{List, [], _∷_, _++_, append-assoc}
 use lib.ListN.{getD}
 use Rattle.model.specs.Below.{tab}
@@ -10,7 +10,7 @@ use Rattle.model.specs.Text.{ascii, digits, spaced, line}
 use Rattle.arrays.proofs.Below.{tab-same}
 use Rattle.replay.specs.Puts.{Room, Put}
 use Rattle.replay.specs.Lines.{row}
-use Rattle.replay.proofs.Pending.{Pending, say, room, step, room-byte, last-byte}
+use Rattle.replay.proofs.Pending.{Pending, begin, say, room, step, room-all, room-byte, last-byte}
 
 spaced-first : (w : List ℕ) (ws : List (List ℕ)) → spaced (w ∷ ws) ≡ (ascii " " ++ w) ++ spaced ws
 unfolding spaced
@@ -102,13 +102,16 @@ module _ {l : List ℕ} {at : ℕ} {whole out : List ℕ} {next : ℕ} (list : L
   unfolding fields
   more h = say (ap spaced (from-more (numberAt list) i k h)) p
 
-  pub room-number : i < k → Room out next (ascii " " ++ digits (getD list i 0))
-  room-number h = room-field (numberAt list i) (from (numberAt list) (i + 1) (k - (i + 1))) (more h)
+  pub room-number : {n : ℕ} → i < k → n ≡ getD list i 0 → Room out next (ascii " " ++ digits n)
+  room-number h e =
+      room-all
+      (say (ap (λ m. ascii " " ++ digits m) (sym e)) (begin (room-field (numberAt list i) (from (numberAt list) (i + 1) (k - (i + 1))) (more h))))
 
-  pub step-number : {r : ℕ} {o : List ℕ} → i < k → Put out next (ascii " " ++ digits (getD list i 0)) r o
+  pub step-number : {n r : ℕ} {o : List ℕ} → i < k → n ≡ getD list i 0 → Put out next (ascii " " ++ digits n) r o
       → Pending l at whole o r (fields list (i + 1) k)
   unfolding fields
-  step-number h q = step-field (numberAt list i) (from (numberAt list) (i + 1) (k - (i + 1))) (more h) q
+  step-number {r = r} {o = o} h e q =
+      step-field (numberAt list i) (from (numberAt list) (i + 1) (k - (i + 1))) (more h) (subst (λ m. Put out next (ascii " " ++ digits m) r o) e q)
 
   over : k ≤ i → Pending l at whole out next (spaced [])
   unfolding fields

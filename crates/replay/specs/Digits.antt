@@ -4,6 +4,7 @@ use Prim.Native.Char.{code}
 use mathlib.Core.Bool.{cond}
 use mathlib.Core.List.{List, [], _∷_, _++_}
 use lib.Dec.{ltb}
+use lib.ListN.{getD}
 
 abbrev pub lastDigit : ℕ → ℕ
 lastDigit n = code "0" + n % 10
@@ -42,3 +43,7 @@ rowsBelow (suc k) = rowsBelow k ++ rowOf k
 
 abbrev pub digitRows : List ℕ
 digitRows = rowsBelow thousand
+
+-- half a row from a position on
+abbrev pub halfAt : List ℕ → ℕ → List ℕ
+halfAt table from = getD table from 0 ∷ getD table (from + 1) 0 ∷ getD table (from + 2) 0 ∷ getD table (from + 3) 0 ∷ []

@@ -1,7 +1,6 @@
 // A drill file in, the program's whole text out.
 mod chunk;
 mod digits;
-mod fields;
 mod lines;
 mod numbers;
 mod parts;

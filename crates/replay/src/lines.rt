@@ -1,6 +1,5 @@
 // The lines of the text.
-use crate::fields::count;
-use crate::fields::field;
+use crate::digits::number;
 use crate::numbers::million;
 use crate::numbers::wide;
 use crate::parts::answer;
@@ -16,7 +15,7 @@ ghost use mathlib.Core.Path.{_≡_};
 ghost use Prim.Native.Nat.{_≤_, _<_};
 ghost use lib.ListN.{length};
 ghost use Rattle.model.specs.Limits.{nodesMost};
-ghost use Rattle.model.specs.Text.{ascii, spoiltLine, refusedLine};
+ghost use Rattle.model.specs.Text.{ascii, digits, spoiltLine, refusedLine};
 ghost use Rattle.network.specs.View.{view};
 ghost use Rattle.replay.specs.Puts.{Room, Put};
 ghost use Rattle.replay.specs.Digits.{thousand, joined, digitRows};
@@ -44,6 +43,15 @@ pub(crate) fn event(
     let second = answer(out, first, answered);
     let third = packet(out, second, table, handled);
     way(out, third, table, went)
+}
+
+// A number of a row.
+fn field(out: &mut [u8; model::TEXT_MOST], at: usize, n: usize) -> usize
+    requires { ⌜ Room (now out) at (ascii " " ++ digits n) ⌝ }
+    ensures { λ r. ⌜ Put (now (out .entry)) at (ascii " " ++ digits n) r (now (out .exit)) ⌝ }
+{
+    let next = byte(out, at, b' ');
+    number(out, next, n)
 }
 
 // A word and numbers.
@@ -90,7 +98,7 @@ fn turns(
     while v < nodes {
         let k = v;
         v += 1;
-        next = count(out, next, turns[k]);
+        next = field(out, next, wide(turns[k]));
     }
     byte(out, next, b'\n')
 }

@@ -9,12 +9,10 @@ use crate::words::three;
 use crate::words::two;
 ghost use mathlib.Core.Path.{_≡_};
 ghost use mathlib.Core.List.{[], _∷_, _++_};
-ghost use Prim.Native.Nat.{_≤_, _<_};
-ghost use lib.ListN.{length};
-ghost use lib.Seq.{sets};
+ghost use Prim.Native.Nat.{_+_, _≤_, _<_};
 ghost use Rattle.model.specs.Text.{ascii, digits};
 ghost use Rattle.replay.specs.Puts.{Room, Put};
-ghost use Rattle.replay.specs.Digits.{thousand, joined, front, back, digitRows};
+ghost use Rattle.replay.specs.Digits.{thousand, joined, tableSize, halfAt, digitRows};
 
 // A byte as a number of the text.
 fn plain(x: u8) -> usize
@@ -51,55 +49,23 @@ pub(crate) fn small(
     four(out, at, table[row], table[row + 1], table[row + 2], after)
 }
 
-// The first half of a row; how many of its bytes are digits.
-fn high(out: &mut [u8; model::TEXT_MOST], at: usize, table: &[u8; TABLE], n: usize) -> usize
-    requires { ⌜ Room (now out) at (front n) × (now table ≡ digitRows) × (n < thousand) ⌝ }
-    ensures { λ r. ⌜ (r ≡ length (digits n)) × (now (out .exit) ≡ sets (now (out .entry)) at (front n)) ⌝ }
+// Half a row.
+fn half(out: &mut [u8; model::TEXT_MOST], at: usize, table: &[u8; TABLE], from: usize) -> usize
+    requires { ⌜ Room (now out) at (halfAt (now table) from) × (from + 4 ≤ tableSize) ⌝ }
+    ensures { λ r. ⌜ Put (now (out .entry)) at (halfAt (now (table .entry)) from) r (now (out .exit)) ⌝ }
 {
-    let row = WIDE * n;
     four(
         out,
         at,
-        table[row],
-        table[row + 1],
-        table[row + 2],
-        table[row + 3],
-    );
-    plain(table[row + 3])
-}
-
-// The other half: three digits and a space.
-fn low(out: &mut [u8; model::TEXT_MOST], at: usize, table: &[u8; TABLE], n: usize) -> usize
-    requires { ⌜ Room (now out) at (back n) × (now table ≡ digitRows) × (n < thousand) ⌝ }
-    ensures { λ r. ⌜ Put (now (out .entry)) at (back n) r (now (out .exit)) ⌝ }
-{
-    let row = WIDE * n + 4;
-    four(
-        out,
-        at,
-        table[row],
-        table[row + 1],
-        table[row + 2],
-        table[row + 3],
+        table[from],
+        table[from + 1],
+        table[from + 2],
+        table[from + 3],
     )
 }
 
-// A number from a thousand on: the low half is stored over what stands after the high digits, so no branch asks how many.
-fn large(
-    out: &mut [u8; model::TEXT_MOST],
-    at: usize,
-    table: &[u8; TABLE],
-    thousands: usize,
-    rest: usize,
-) -> usize
-    requires { ⌜ Room (now out) at (digits (joined thousands rest) ++ ascii " ") × (now table ≡ digitRows) × (0 < thousands) × (thousands < thousand) × (rest < thousand) ⌝ }
-    ensures { λ r. ⌜ Put (now (out .entry)) at (digits (joined thousands rest) ++ ascii " ") r (now (out .exit)) ⌝ }
-{
-    let digits = high(out, at, table, thousands);
-    low(out, at + digits, table, rest)
-}
-
-// A number below a million by its thousands, and a space.
+// A number below a million by its thousands, and a space. The second half is stored over what stands
+// after the digits of the first, so that no branch asks how many they are.
 pub(crate) fn million(
     out: &mut [u8; model::TEXT_MOST],
     at: usize,
@@ -113,7 +79,10 @@ pub(crate) fn million(
     if thousands == 0 {
         return small(out, at, table, rest, b' ');
     }
-    large(out, at, table, thousands, rest)
+    let row = WIDE * thousands;
+    half(out, at, table, row);
+    let count = plain(table[row + 3]);
+    half(out, at + count, table, WIDE * rest + 4)
 }
 
 // Any number, and a space.

@@ -1,6 +1,7 @@
 -- The word, then the numbers passed. Assumes nothing.
 use Prim.Native.Nat.{_-_, _≤_}
 use native.Mathlib.Omega.{arith}
+use mathlib.Core.Path.{refl}
 use lib.ListN.{length}
 use denote.Ref.{now}
 use borrow.Author.Needs.{needs}
@@ -39,7 +40,7 @@ shared-slice-read-field c = search needs
 field-requires : tie.Need-field-requires Inv-loop μ-loop
 field-requires c κs =
     let test = c .before .before in
-    room-number _ _ _ (test .before .loop .inv .1) (test .loop-test .taken)
+    room-number _ _ _ (test .before .loop .inv .1) (test .loop-test .taken) refl
 
 loop-less : tie.Need-loop-less Inv-loop μ-loop
 loop-less c = omega (arith, c .before .before .before .loop-test .taken)
@@ -47,7 +48,7 @@ loop-less c = omega (arith, c .before .before .before .loop-test .taken)
 loop-again : tie.Need-loop-again Inv-loop μ-loop
 loop-again c =
     let test = c .before .before .before in
-    (omega (arith, test .loop-test .taken), step-number _ _ _ (test .before .loop .inv .1) (test .loop-test .taken) (c .field .ensures))
+    (omega (arith, test .loop-test .taken), step-number _ _ _ (test .before .loop .inv .1) (test .loop-test .taken) refl (c .field .ensures))
 
 byte-requires : tie.Need-byte-requires Inv-loop μ-loop
 byte-requires c κs = room-over _ _ _ (c .before .before .loop .inv .1) (c .before .loop-test .left)

@@ -33,24 +33,29 @@ loop-holds c =
 add-v : tie.Need-add-v Inv-loop μ-loop
 add-v c = search needs
 
-mul-count : tie.Need-mul-count Inv-loop μ-loop
-mul-count c = search needs
+mul-wide : tie.Need-mul-wide Inv-loop μ-loop
+mul-wide c = search needs
 
-element-copy-out-count : tie.Need-element-copy-out-count Inv-loop μ-loop
-element-copy-out-count c = search needs
+element-copy-out-wide : tie.Need-element-copy-out-wide Inv-loop μ-loop
+element-copy-out-wide c = search needs
 
-count-requires : tie.Need-count-requires Inv-loop μ-loop
-count-requires c κs =
-    let test = c .before .before in
-    room-number _ _ _ (test .before .loop .inv .1) (test .loop-test .taken)
+wide-requires : tie.Need-wide-requires Inv-loop μ-loop
+wide-requires c κs = search needs
+
+field-requires : tie.Need-field-requires Inv-loop μ-loop
+field-requires c κs =
+    let test = c .before .before .before in
+    room-number _ _ _ (test .before .loop .inv .1) (test .loop-test .taken) (c .wide .ensures)
 
 loop-less : tie.Need-loop-less Inv-loop μ-loop
-loop-less c = omega (arith, c .before .before .before .loop-test .taken)
+loop-less c = omega (arith, c .before .before .before .before .loop-test .taken)
 
 loop-again : tie.Need-loop-again Inv-loop μ-loop
 loop-again c =
-    let test = c .before .before .before in
-    (omega (arith, test .loop-test .taken), step-number _ _ _ (test .before .loop .inv .1) (test .loop-test .taken) (c .count .ensures))
+    let test = c .before .before .before .before in (
+      omega (arith, test .loop-test .taken),
+      step-number _ _ _ (test .before .loop .inv .1) (test .loop-test .taken) (c .before .wide .ensures) (c .field .ensures),
+    )
 
 byte-requires : tie.Need-byte-requires Inv-loop μ-loop
 byte-requires c κs = room-over _ _ _ (c .before .before .loop .inv .1) (c .before .loop-test .left)
@@ -74,9 +79,10 @@ turns-spec =
     word-requires
     loop-holds
     add-v
-    mul-count
-    element-copy-out-count
-    count-requires
+    mul-wide
+    element-copy-out-wide
+    wide-requires
+    field-requires
     loop-less
     loop-again
     byte-requires

@@ -2,8 +2,8 @@
 use mathlib.Core.Path.{refl}
 use Rattle.model.specs.Text.{ascii}
 use Rattle.replay.proofs.Pending.{begin, room-all, last, room-byte, step-byte}
-use Rattle.replay.proofs.fields.field.Statement.{statement}
-use Rattle.replay.proofs.fields.field.Tie as tie
+use Rattle.replay.proofs.lines.field.Statement.{statement}
+use Rattle.replay.proofs.lines.field.Tie as tie
 
 byte-requires : tie.Need-byte-requires
 unfolding ascii
