@@ -22,11 +22,10 @@ module _ (code : ℕ) where
   unfolding packetWord
   packet-some n = rw (ne-eqb code eventsMost n)
 
-  pub packet-joined : {t r : ℕ} → code < eventsMost → t ≡ code / 1000 → r ≡ code % 1000
-      → packetWord code ++ ascii " " ≡ digits (joined t r) ++ ascii " "
-  packet-joined {t} {r} h p q =
-      let e : code ≡ joined t r = omega arith in
-      packet-some (λ n. omega (arith, n, h)) ∙ ap (λ n. digits n ++ ascii " ") e
+  pub packet-joined : {n : ℕ} → code < eventsMost → n ≡ code → packetWord code ++ ascii " " ≡ digits (joined (n / 1000) (n % 1000)) ++ ascii " "
+  packet-joined {n} h p =
+      let e : code ≡ joined (n / 1000) (n % 1000) = omega arith in
+      packet-some (λ z. omega (arith, z, h)) ∙ ap (λ m. digits m ++ ascii " ") e
 
   pub packet-none : code ≡ eventsMost → packetWord code ++ ascii " " ≡ 45 ∷ 32 ∷ []
   unfolding packetWord ascii

@@ -64,8 +64,7 @@ fn half(out: &mut [u8; model::TEXT_MOST], at: usize, table: &[u8; TABLE], from: 
     )
 }
 
-// A number below a million by its thousands, and a space. The second half is stored over what stands
-// after the digits of the first, so that no branch asks how many they are.
+// A number below a million, and a space: the second half goes over the end of the first, so no branch asks how long that is.
 pub(crate) fn million(
     out: &mut [u8; model::TEXT_MOST],
     at: usize,

@@ -5,6 +5,7 @@ use crate::numbers::million;
 use crate::numbers::small;
 use crate::numbers::wide;
 use crate::table::TABLE;
+use crate::table::THOUSAND;
 use crate::words::two;
 use crate::words::word;
 ghost use mathlib.Core.Path.{_≡_};
@@ -36,7 +37,8 @@ pub(crate) fn packet(
     ensures { λ r. ⌜ Put (now (out .entry)) at (packetWord code ++ ascii " ") r (now (out .exit)) ⌝ }
 {
     if code < model::EVENTS {
-        return million(out, at, table, wide(code / 1000), wide(code % 1000));
+        let n = wide(code);
+        return million(out, at, table, n / THOUSAND, n % THOUSAND);
     }
     if code == model::EVENTS {
         return word(out, at, b"- ");

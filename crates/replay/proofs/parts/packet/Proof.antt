@@ -9,29 +9,24 @@ use Rattle.replay.proofs.parts.packet.Tie as tie
 wide-requires : tie.Need-wide-requires
 wide-requires c κs = search needs
 
-wide-requires-2 : tie.Need-wide-requires-2
-wide-requires-2 c κs = search needs
-
 million-requires : tie.Need-million-requires
 million-requires c κs =
     let at-wide = c .before in
-    let test = at-wide .before .before in
+    let test = at-wide .before in
     let start = test .before in
-    let joined = packet-joined (start .args .code) (test .if1 .taken) (at-wide .wide .ensures) (c .wide2 .ensures) in (
-      room-all (say joined (begin (start .pre .0))),
+    let n = at-wide .wide .ensures in (
+      room-all (say (packet-joined (start .args .code) (test .if1 .taken) n) (begin (start .pre .0))),
       start .pre .1,
-      omega (arith, test .if1 .taken, at-wide .wide .ensures),
-      omega (arith, c .wide2 .ensures),
+      omega (arith, test .if1 .taken, n),
+      omega arith,
     )
 
 returns : tie.Need-returns
 returns c =
-    let at-wide2 = c .before in
-    let at-wide = at-wide2 .before in
-    let test = at-wide .before .before in
+    let at-wide = c .before .before in
+    let test = at-wide .before in
     let start = test .before in
-    let joined = packet-joined (start .args .code) (test .if1 .taken) (at-wide .wide .ensures) (at-wide2 .wide2 .ensures) in
-    last (say joined (begin (start .pre .0))) (c .million .ensures)
+    last (say (packet-joined (start .args .code) (test .if1 .taken) (at-wide .wide .ensures)) (begin (start .pre .0))) (c .million .ensures)
 
 slice-aggregate-word : tie.Need-slice-aggregate-word
 slice-aggregate-word c = search needs
@@ -65,7 +60,6 @@ packet-spec =
     tie.close
     (tie.spec
     wide-requires
-    wide-requires-2
     million-requires
     returns
     slice-aggregate-word
