@@ -21,7 +21,7 @@ abbrev pub wide : ℕ
 wide = 8
 
 abbrev pub tableSize : ℕ
-tableSize = 8000
+tableSize = wide * thousand
 
 -- the number's digits, filled up to three, and how many they are
 unfoldable pub front : ℕ → List ℕ
