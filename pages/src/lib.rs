@@ -1,0 +1,10 @@
+//! The pages held to the tree: a page that names what is no longer there
+//! misleads, and nobody notices by reading it.
+
+pub mod code;
+pub mod definitions;
+pub mod links;
+pub mod names;
+pub mod promises;
+pub mod table;
+pub mod tree;

@@ -1,0 +1,75 @@
+//! What a name of the promises stands for, by the column that it is in.
+
+#[derive(Clone, Copy)]
+pub enum Column {
+    Stated,
+    MustFail,
+    Run,
+}
+
+pub enum Name<'a> {
+    /// `File.name`, `crate/File.name`, `crate/proofs/File.name`
+    Declared { file: String, path: Vec<&'a str> },
+    /// `crate::module::name`
+    Code { owner: &'a str, path: Vec<&'a str> },
+    /// `crate/name`
+    Edit(&'a str, &'a str),
+    /// `row WORDS`
+    Row(&'a str),
+    /// `drill NAME`
+    Drill(&'a str),
+    /// `calls PART`
+    Calls(&'a str),
+    /// `test crate/file name`
+    Test { file: String, name: &'a str },
+    /// `wrong NAME`
+    Wrong(&'a str),
+}
+
+pub fn parse(column: Column, text: &str) -> Option<Name<'_>> {
+    match column {
+        Column::Stated => stated(text),
+        Column::MustFail => {
+            let (owner, name) = text.split_once('/')?;
+            Some(Name::Edit(owner, name))
+        }
+        Column::Run => run(text),
+    }
+}
+
+fn stated(text: &str) -> Option<Name<'_>> {
+    if let Some((owner, rest)) = text.split_once("::") {
+        let path = rest.split("::").collect();
+        return Some(Name::Code { owner, path });
+    }
+    let (owner, rest) = match text.split_once('/') {
+        Some((owner, rest)) => (owner, rest),
+        None => ("model", text),
+    };
+    let (folder, rest) = match rest.split_once('/') {
+        Some((folder, rest)) => (folder, rest),
+        None => ("specs", rest),
+    };
+    let (file, path) = rest.split_once('.')?;
+    Some(Name::Declared {
+        file: format!("crates/{owner}/{folder}/{file}.antt"),
+        path: path.split('.').collect(),
+    })
+}
+
+fn run(text: &str) -> Option<Name<'_>> {
+    let (kind, rest) = text.split_once(' ')?;
+    match kind {
+        "row" => Some(Name::Row(rest)),
+        "drill" => Some(Name::Drill(rest)),
+        "calls" => Some(Name::Calls(rest)),
+        "wrong" => Some(Name::Wrong(rest)),
+        "test" => {
+            let (place, name) = rest.split_once(' ')?;
+            let (owner, file) = place.split_once('/')?;
+            let file = format!("{owner}/tests/{file}.rs");
+            Some(Name::Test { file, name })
+        }
+        _ => None,
+    }
+}

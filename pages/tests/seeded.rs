@@ -1,0 +1,125 @@
+//! Seeded faults: a wrong name, an edit left out, a broken link.
+
+use std::path::Path;
+
+use pages::names::{parse, Column};
+use pages::tree::Tree;
+use pages::{links, promises};
+
+fn tree() -> Tree {
+    Tree::new(Path::new(concat!(env!("CARGO_MANIFEST_DIR"), "/..")))
+}
+
+fn page() -> String {
+    tree().read(promises::PAGE).expect("the page")
+}
+
+fn has(column: Column, name: &str) -> bool {
+    parse(column, name).is_some_and(|name| tree().has(&name))
+}
+
+#[test]
+fn the_page_has_no_fault() {
+    assert_eq!(promises::faults(&tree(), &page()), Vec::<String>::new());
+}
+
+/// Each right name with wrong ones that a search for a part of it would take.
+#[test]
+fn a_name_is_taken_whole() {
+    let names = [
+        (Column::Stated, "Send.sendTo", "Send.send"),
+        (Column::Stated, "Send.sendTo", "Lose.sendTo"),
+        (Column::Stated, "Below.tab", "Below.n"),
+        (Column::Stated, "State.Ends.out", "State.Ends.turns"),
+        (Column::Stated, "History.History.next", "History.History.e"),
+        (
+            Column::Stated,
+            "network/Calls.CallPost.outcome",
+            "network/Calls.CallPost.made",
+        ),
+        (
+            Column::Stated,
+            "replay/proofs/OneOutcome.text-one",
+            "replay/OneOutcome.text-one",
+        ),
+        (Column::Stated, "network::open", "network::opening"),
+        (Column::Stated, "network::Network", "network::SLOTS"),
+        (
+            Column::Stated,
+            "network::Network::send",
+            "network::Network::sent",
+        ),
+        (
+            Column::Stated,
+            "model::limits::NODES",
+            "model::limits::NODE",
+        ),
+        (Column::MustFail, "moves/newest_taken", "model/newest_taken"),
+        (Column::MustFail, "model/newest_lost", "newest_lost"),
+        (Column::Run, "row P1", "row P13"),
+        (Column::Run, "row a bounce", "row bounce"),
+        (Column::Run, "row D1's whole text", "row D"),
+        (Column::Run, "drill p12-d1", "drill p12"),
+        (Column::Run, "calls records", "calls record"),
+        (
+            Column::Run,
+            "test second/document d1_whole",
+            "test second/document full",
+        ),
+        (Column::Run, "wrong turn-all", "wrong turn"),
+        (Column::Run, "drill p12-d1", "p12-d1"),
+    ];
+    for (column, right, wrong) in names {
+        assert!(has(column, right), "{right}");
+        assert!(!has(column, wrong), "{wrong}");
+    }
+}
+
+#[test]
+fn a_wrong_name_is_told_with_its_line() {
+    let page = page();
+    let line = 1 + page
+        .lines()
+        .position(|line| line.contains("`Lose.loseOn`"))
+        .expect("a row");
+    let page = page.replace("`Lose.loseOn`", "`Lose.loseOff`");
+    let told = format!(
+        "{}:{line}: `Lose.loseOff` is not in the tree",
+        promises::PAGE
+    );
+    assert_eq!(promises::faults(&tree(), &page), [told]);
+}
+
+#[test]
+fn an_edit_in_no_row_is_told() {
+    let page = page().replace("`network/odd_list_taken`", "");
+    let faults = promises::faults(&tree(), &page);
+    assert!(faults
+        .iter()
+        .any(|fault| fault.ends_with("the edit `network/odd_list_taken` is in no row")));
+}
+
+#[test]
+fn an_empty_cell_is_told() {
+    let page = "| Sentence | Stated | Must fail | Run |\n|---|---|---|---|\n| a | `Send.sendTo` | | none: so |\n";
+    let faults = promises::faults(&tree(), page);
+    assert!(faults[0].ends_with(":3: an empty cell"), "{faults:?}");
+}
+
+#[test]
+fn the_links_lead_somewhere() {
+    let tree = tree();
+    for page in tree.pages() {
+        let text = tree.read(&page).expect("a page");
+        assert_eq!(links::faults(&tree, &page, &text), Vec::<String>::new());
+    }
+}
+
+#[test]
+fn a_broken_link_is_told() {
+    let text = "[a](CALLS.md) `[b](no)`\n[c](../README.md#top), [d](NONE.md)\n";
+    assert_eq!(
+        links::faults(&tree(), "docs/ANY.md", text),
+        ["docs/ANY.md:2: no NONE.md"]
+    );
+}
