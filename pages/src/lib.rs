@@ -3,6 +3,7 @@
 
 pub mod code;
 pub mod definitions;
+pub mod example;
 pub mod links;
 pub mod names;
 pub mod promises;

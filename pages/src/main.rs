@@ -4,19 +4,23 @@ use std::path::Path;
 use std::process::ExitCode;
 
 use pages::tree::Tree;
-use pages::{links, promises};
+use pages::{example, links, promises};
 
 const HELP: &str = "\
 pages ROOT                  the names of docs/PROMISES.md and the links of the pages
+pages ROOT PROGRAM..        the README's drill, by each of these programs
 ";
 
 fn main() -> ExitCode {
     let words: Vec<String> = std::env::args().skip(1).collect();
-    let [root] = &words[..] else {
-        eprint!("{HELP}");
-        return ExitCode::from(2);
+    let faults = match &words[..] {
+        [] => {
+            eprint!("{HELP}");
+            return ExitCode::from(2);
+        }
+        [root] => checked(&Tree::new(Path::new(root))),
+        [root, programs @ ..] => compared(&Tree::new(Path::new(root)), programs),
     };
-    let faults = checked(&Tree::new(Path::new(root)));
     for fault in &faults {
         eprintln!("{fault}");
     }
@@ -37,4 +41,15 @@ fn checked(tree: &Tree) -> Vec<String> {
         }
     }
     faults
+}
+
+fn compared(tree: &Tree, programs: &[String]) -> Vec<String> {
+    let readme = tree.read("README.md").unwrap_or_default();
+    let Some(example) = example::read(&readme) else {
+        return vec!["README.md: no drill made by hand".to_string()];
+    };
+    let programs = programs.iter().map(Path::new);
+    programs
+        .filter_map(|program| example::fault(&example, program))
+        .collect()
 }
