@@ -1,9 +1,11 @@
 //! The pages held to the tree: a page that names what is no longer there
 //! misleads, and nobody notices by reading it.
 
+pub mod architecture;
 pub mod code;
 pub mod definitions;
 pub mod example;
+pub mod held;
 pub mod links;
 pub mod names;
 pub mod promises;

@@ -4,10 +4,10 @@ use std::path::Path;
 use std::process::ExitCode;
 
 use pages::tree::Tree;
-use pages::{example, links, promises};
+use pages::{architecture, example, links, promises};
 
 const HELP: &str = "\
-pages ROOT                  the names of docs/PROMISES.md and the links of the pages
+pages ROOT                  the names and the links of the pages
 pages ROOT PROGRAM..        the README's drill, by each of these programs
 ";
 
@@ -32,13 +32,11 @@ fn main() -> ExitCode {
 }
 
 fn checked(tree: &Tree) -> Vec<String> {
-    let promises = tree.read(promises::PAGE).unwrap_or_default();
-    let mut faults = promises::faults(tree, &promises);
+    let text = |page: &str| tree.read(page).unwrap_or_default();
+    let mut faults = promises::faults(tree, &text(promises::PAGE));
+    faults.extend(architecture::faults(tree, &text(architecture::PAGE)));
     for page in tree.pages() {
-        match tree.read(&page) {
-            Some(text) => faults.extend(links::faults(tree, &page, &text)),
-            None => faults.push(format!("{page} can not be read")),
-        }
+        faults.extend(links::faults(tree, &page, &text(&page)));
     }
     faults
 }

@@ -2,6 +2,8 @@
 
 #[derive(Clone, Copy)]
 pub enum Column {
+    /// Words and links alone.
+    Words,
     Stated,
     MustFail,
     Run,
@@ -28,6 +30,7 @@ pub enum Name<'a> {
 
 pub fn parse(column: Column, text: &str) -> Option<Name<'_>> {
     match column {
+        Column::Words => None,
         Column::Stated => stated(text),
         Column::MustFail => {
             let (owner, name) = text.split_once('/')?;

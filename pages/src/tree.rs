@@ -124,6 +124,14 @@ impl Tree {
         edits
     }
 
+    /// The crates of crates.txt, which names each with those that it uses.
+    pub fn crates(&self) -> Vec<String> {
+        let list = self.read("crates.txt").unwrap_or_default();
+        let lines = list.lines().filter(|line| !line.starts_with('#'));
+        let names = lines.filter_map(|line| line.split_once(':'));
+        names.map(|(name, _)| name.to_string()).collect()
+    }
+
     /// The pages that a reader goes through, README.md first.
     pub fn pages(&self) -> Vec<String> {
         let docs = entries(&self.root.join("docs")).into_iter();

@@ -4,7 +4,7 @@ use std::path::Path;
 
 use pages::names::{parse, Column};
 use pages::tree::Tree;
-use pages::{links, promises};
+use pages::{architecture, links, promises};
 
 fn tree() -> Tree {
     Tree::new(Path::new(concat!(env!("CARGO_MANIFEST_DIR"), "/..")))
@@ -104,6 +104,25 @@ fn an_empty_cell_is_told() {
     let page = "| Sentence | Stated | Must fail | Run |\n|---|---|---|---|\n| a | `Send.sendTo` | | none: so |\n";
     let faults = promises::faults(&tree(), page);
     assert!(faults[0].ends_with(":3: an empty cell"), "{faults:?}");
+}
+
+#[test]
+fn the_steps_and_crates_are_those_of_the_tree() {
+    let page = tree().read(architecture::PAGE).expect("the page");
+    let faults = |page: &str| architecture::faults(&tree(), page);
+    assert_eq!(faults(&page), Vec::<String>::new());
+    assert_eq!(
+        faults(&page.replace("`steps::step`", "`steps::steps`")).len(),
+        1
+    );
+    let renamed = page.replace("| moves | ", "| walks | ");
+    assert_eq!(
+        faults(&renamed),
+        [
+            "docs/ARCHITECTURE.md: the crate moves is in no row",
+            "docs/ARCHITECTURE.md: walks is no crate"
+        ]
+    );
 }
 
 #[test]

@@ -1,0 +1,45 @@
+//! Names in the tables of a page, column by column, held to the tree.
+
+use crate::names::{parse, Column};
+use crate::table::{quoted, rows};
+use crate::tree::Tree;
+
+/// What is wrong in the tables with this heading, a line each.
+pub fn faults(
+    tree: &Tree,
+    page: &str,
+    text: &str,
+    heading: &str,
+    columns: &[Column],
+) -> Vec<String> {
+    let mut faults = Vec::new();
+    for row in rows(text, heading) {
+        let words = row_faults(tree, &row.cells, columns).into_iter();
+        faults.extend(words.map(|words| format!("{page}:{}: {words}", row.line)));
+    }
+    faults
+}
+
+fn row_faults(tree: &Tree, cells: &[String], columns: &[Column]) -> Vec<String> {
+    if cells.len() != columns.len() {
+        return vec![format!("{} cells", cells.len())];
+    }
+    let cells = columns.iter().zip(cells);
+    cells
+        .flat_map(|(column, cell)| cell_faults(tree, *column, cell))
+        .collect()
+}
+
+fn cell_faults(tree: &Tree, column: Column, cell: &str) -> Vec<String> {
+    if cell.is_empty() {
+        return vec!["an empty cell".to_string()];
+    }
+    let Some(names) = quoted(cell) else {
+        return vec!["a backtick that is not closed".to_string()];
+    };
+    let stands = |name: &str| parse(column, name).is_some_and(|name| tree.has(&name));
+    let missing = names.into_iter().filter(|name| !stands(name));
+    missing
+        .map(|name| format!("`{name}` is not in the tree"))
+        .collect()
+}
