@@ -23,53 +23,47 @@ fn the_page_has_no_fault() {
     assert_eq!(promises::faults(&tree(), &page()), Vec::<String>::new());
 }
 
-/// Each right name with wrong ones that a search for a part of it would take.
+/// A right name, and a wrong one that a search for a part of it would take.
+const STATED: [(&str, &str); 11] = [
+    ("Send.sendTo", "Send.send"),
+    ("Send.sendTo", "Lose.sendTo"),
+    ("Below.tab", "Below.n"),
+    ("State.Ends.out", "State.Ends.turns"),
+    ("History.History.next", "History.History.e"),
+    (
+        "network/Calls.CallPost.outcome",
+        "network/Calls.CallPost.made",
+    ),
+    (
+        "replay/proofs/OneOutcome.text-one",
+        "replay/OneOutcome.text-one",
+    ),
+    ("network::open", "network::opening"),
+    ("network::Network", "network::SLOTS"),
+    ("network::Network::send", "network::Network::sent"),
+    ("model::limits::NODES", "model::limits::NODE"),
+];
+const MUST_FAIL: [(&str, &str); 2] = [
+    ("moves/newest_taken", "model/newest_taken"),
+    ("model/newest_lost", "newest_lost"),
+];
+const RUN: [(&str, &str); 8] = [
+    ("row P1", "row P13"),
+    ("row a bounce", "row bounce"),
+    ("row D1's whole text", "row D"),
+    ("drill p12-d1", "drill p12"),
+    ("drill p12-d1", "p12-d1"),
+    ("calls records", "calls record"),
+    ("test second/document d1_whole", "test second/document full"),
+    ("wrong turn-all", "wrong turn"),
+];
+
 #[test]
 fn a_name_is_taken_whole() {
-    let names = [
-        (Column::Stated, "Send.sendTo", "Send.send"),
-        (Column::Stated, "Send.sendTo", "Lose.sendTo"),
-        (Column::Stated, "Below.tab", "Below.n"),
-        (Column::Stated, "State.Ends.out", "State.Ends.turns"),
-        (Column::Stated, "History.History.next", "History.History.e"),
-        (
-            Column::Stated,
-            "network/Calls.CallPost.outcome",
-            "network/Calls.CallPost.made",
-        ),
-        (
-            Column::Stated,
-            "replay/proofs/OneOutcome.text-one",
-            "replay/OneOutcome.text-one",
-        ),
-        (Column::Stated, "network::open", "network::opening"),
-        (Column::Stated, "network::Network", "network::SLOTS"),
-        (
-            Column::Stated,
-            "network::Network::send",
-            "network::Network::sent",
-        ),
-        (
-            Column::Stated,
-            "model::limits::NODES",
-            "model::limits::NODE",
-        ),
-        (Column::MustFail, "moves/newest_taken", "model/newest_taken"),
-        (Column::MustFail, "model/newest_lost", "newest_lost"),
-        (Column::Run, "row P1", "row P13"),
-        (Column::Run, "row a bounce", "row bounce"),
-        (Column::Run, "row D1's whole text", "row D"),
-        (Column::Run, "drill p12-d1", "drill p12"),
-        (Column::Run, "calls records", "calls record"),
-        (
-            Column::Run,
-            "test second/document d1_whole",
-            "test second/document full",
-        ),
-        (Column::Run, "wrong turn-all", "wrong turn"),
-        (Column::Run, "drill p12-d1", "p12-d1"),
-    ];
-    for (column, right, wrong) in names {
+    let stated = STATED.map(|pair| (Column::Stated, pair));
+    let must_fail = MUST_FAIL.map(|pair| (Column::MustFail, pair));
+    let run = RUN.map(|pair| (Column::Run, pair));
+    for (column, (right, wrong)) in stated.into_iter().chain(must_fail).chain(run) {
         assert!(has(column, right), "{right}");
         assert!(!has(column, wrong), "{wrong}");
     }
