@@ -1,17 +1,17 @@
-//! The packets in flight.
-
-use std::arch::x86_64::{_mm_cmpeq_epi16, _mm_loadu_si128, _mm_movemask_epi8, _mm_set1_epi16};
+//! The packets in flight, whichever way they are kept.
 
 /// At most so many are in flight.
 pub const MOST: usize = 256;
 
-/// Room to look at whole blocks.
-const SLOTS: usize = MOST + 16;
-
 /// A packet's number and bit in one word.
 #[inline(always)]
-fn packed(number: u32, bit: bool) -> u32 {
+pub(crate) fn packed(number: u32, bit: bool) -> u32 {
     number << 1 | u32::from(bit)
+}
+
+#[inline(always)]
+pub(crate) fn unpacked(word: u32) -> (u32, bool) {
+    (word >> 1, word & 1 != 0)
 }
 
 pub trait Flight {
@@ -28,198 +28,4 @@ pub trait Flight {
     /// Whether lanes and numbers are in range, and lanes of live links only
     /// where some link is down.
     fn holds(&self, lanes: usize, admitted: u32, down: bool, flags: &[u8; 512]) -> bool;
-}
-
-/// Oldest first, closed up, as document 01 lists them.
-pub struct Row {
-    lane: [u16; SLOTS],
-    word: [u32; SLOTS],
-    flying: usize,
-}
-
-impl Flight for Row {
-    fn new() -> Row {
-        Row {
-            lane: [0; SLOTS],
-            word: [0; SLOTS],
-            flying: 0,
-        }
-    }
-
-    #[inline(always)]
-    fn flying(&self) -> usize {
-        self.flying
-    }
-
-    /// Sixteen at a time. What stands past the last packet is found too, and
-    /// told by its place.
-    #[inline(always)]
-    fn oldest(&self, lane: usize) -> Option<(usize, u32, bool)> {
-        let mut base = 0;
-        while base < self.flying {
-            let found = sixteen(&self.lane, base, lane as u16);
-            if found != 0 {
-                let at = base + found.trailing_zeros() as usize / 2;
-                if at >= self.flying {
-                    return None;
-                }
-                let word = self.word[at];
-                return Some((at, word >> 1, word & 1 != 0));
-            }
-            base += 16;
-        }
-        None
-    }
-
-    #[inline(always)]
-    fn take(&mut self, at: usize, _: usize) {
-        self.lane.copy_within(at + 1..self.flying, at);
-        self.word.copy_within(at + 1..self.flying, at);
-        self.flying -= 1;
-    }
-
-    #[inline(always)]
-    fn push(&mut self, lane: usize, number: u32, bit: bool) {
-        self.lane[self.flying] = lane as u16;
-        self.word[self.flying] = packed(number, bit);
-        self.flying += 1;
-    }
-
-    fn cut(&mut self, link: usize) -> u32 {
-        let mut kept = 0;
-        for at in 0..self.flying.min(MOST) {
-            let lane = self.lane[at];
-            self.lane[kept] = lane;
-            self.word[kept] = self.word[at];
-            kept += usize::from(usize::from(lane) / 2 != link);
-        }
-        let lost = self.flying - kept;
-        self.flying = kept;
-        lost as u32
-    }
-
-    /// What stands past the last packet was one or is 0, so whole blocks do. A
-    /// number in range leaves the sign of the difference set.
-    #[inline(always)]
-    fn holds(&self, lanes: usize, admitted: u32, down: bool, flags: &[u8; 512]) -> bool {
-        if self.flying == 0 {
-            return true;
-        }
-        let most = 2 * admitted as i32;
-        let mut top = [0i16; 16];
-        let mut fine = [-1i32; 16];
-        let lane = self.lane.as_chunks::<16>().0;
-        let word = self.word.as_chunks::<16>().0;
-        for (lane, word) in lane.iter().zip(word).take(self.flying.div_ceil(16)) {
-            for i in 0..16 {
-                top[i] = top[i].max(lane[i] as i16);
-                fine[i] &= (word[i] as i32).wrapping_sub(most);
-            }
-        }
-        let top = top.iter().fold(0, |a, &b| a.max(b));
-        let fine = fine.iter().fold(-1, |a, &b| a & b);
-        (top as usize) < lanes && fine < 0 && !(down && self.on_down(flags))
-    }
-}
-
-impl Row {
-    fn on_down(&self, flags: &[u8; 512]) -> bool {
-        let mut some = 0;
-        for &lane in &self.lane[..self.flying] {
-            some |= flags[usize::from(lane / 2) % 512];
-        }
-        some & crate::net::DOWN != 0
-    }
-}
-
-/// Two bits for each of sixteen lanes that is the one.
-#[inline(always)]
-fn sixteen(lanes: &[u16; SLOTS], base: usize, lane: u16) -> u32 {
-    let part: &[u16; 16] = lanes[base..base + 16].try_into().expect("sixteen");
-    // Both loads are within the sixteen.
-    unsafe {
-        let all = _mm_set1_epi16(lane as i16);
-        let low = _mm_loadu_si128(part.as_ptr().cast());
-        let high = _mm_loadu_si128(part.as_ptr().add(8).cast());
-        let low = _mm_movemask_epi8(_mm_cmpeq_epi16(low, all)) as u32;
-        let high = _mm_movemask_epi8(_mm_cmpeq_epi16(high, all)) as u32;
-        low | high << 16
-    }
-}
-
-const NO: u16 = MOST as u16;
-
-/// A queue for each lane: nothing is searched and nothing moves, but the order
-/// of sending is kept within each lane only.
-pub struct Queues {
-    head: [u16; 512],
-    tail: [u16; 512],
-    next: [u16; MOST],
-    word: [u32; MOST],
-    free: u16,
-    flying: usize,
-}
-
-impl Flight for Queues {
-    fn new() -> Queues {
-        Queues {
-            head: [NO; 512],
-            tail: [NO; 512],
-            next: std::array::from_fn(|slot| slot as u16 + 1),
-            word: [0; MOST],
-            free: 0,
-            flying: 0,
-        }
-    }
-
-    #[inline(always)]
-    fn flying(&self) -> usize {
-        self.flying
-    }
-
-    #[inline(always)]
-    fn oldest(&self, lane: usize) -> Option<(usize, u32, bool)> {
-        let at = usize::from(self.head[lane % 512]);
-        let word = *self.word.get(at)?;
-        Some((at, word >> 1, word & 1 != 0))
-    }
-
-    #[inline(always)]
-    fn take(&mut self, at: usize, lane: usize) {
-        self.head[lane % 512] = self.next[at % MOST];
-        self.next[at % MOST] = self.free;
-        self.free = at as u16;
-        self.flying -= 1;
-    }
-
-    #[inline(always)]
-    fn push(&mut self, lane: usize, number: u32, bit: bool) {
-        let lane = lane % 512;
-        let at = usize::from(self.free) % MOST;
-        self.free = self.next[at];
-        self.next[at] = NO;
-        self.word[at] = packed(number, bit);
-        if self.head[lane] == NO {
-            self.head[lane] = at as u16;
-        } else {
-            self.next[usize::from(self.tail[lane]) % MOST] = at as u16;
-        }
-        self.tail[lane] = at as u16;
-        self.flying += 1;
-    }
-
-    fn cut(&mut self, link: usize) -> u32 {
-        let before = self.flying;
-        for lane in [2 * link, 2 * link + 1] {
-            while let Some((at, _, _)) = self.oldest(lane) {
-                self.take(at, lane);
-            }
-        }
-        (before - self.flying) as u32
-    }
-
-    /// Its order is not the record's, so there is no record to be checked.
-    fn holds(&self, _: usize, _: u32, _: bool, _: &[u8; 512]) -> bool {
-        true
-    }
 }

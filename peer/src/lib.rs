@@ -7,13 +7,18 @@
 
 pub mod digits;
 pub mod flight;
+mod formed;
 pub mod net;
 pub mod open;
+pub mod queues;
 pub mod reader;
+pub mod row;
 pub mod text;
 
-pub use flight::{Flight, Queues, Row};
+pub use flight::Flight;
 pub use net::{Net, Outcome};
+pub use queues::Queues;
+pub use row::Row;
 pub use text::text;
 
 /// No text is longer, with room for the last stores of eight bytes.
