@@ -6,7 +6,7 @@ use std::path::Path;
 
 use crate::measure::{Bench, Figures};
 use crate::plot::{svg, Line};
-use crate::shapes::Shape;
+use crate::shapes::{Drill, Shape};
 use crate::sides::{LIBRARY, PEER, PEER_CHECKS, QUEUES, SINGLES};
 
 /// The five rows, whole drills and single calls.
@@ -20,31 +20,8 @@ pub fn rows(bench: &mut Bench) -> io::Result<()> {
             "{}: {} events, {} turns, {} failures, {} in flight at the end",
             drill.name, drill.events, drill.turns, drill.failures, drill.flying
         );
-        let library = bench.figures(LIBRARY, &drill)?;
-        let peer = bench.figures(PEER, &drill)?;
-        let queues = bench.figures(QUEUES, &drill)?;
-        whole += &format!(
-            "| {} | {:.0} | {:.0} | {:.2} | {:.0} | {} | {} | {} |\n",
-            drill.name,
-            library.counted,
-            peer.counted,
-            library.counted / peer.counted,
-            queues.counted,
-            millions(&library),
-            millions(&peer),
-            millions(&queues)
-        );
-        let calls = bench.figures(SINGLES, &drill)?;
-        let checks = bench.figures(PEER_CHECKS, &drill)?;
-        single += &format!(
-            "| {} | {:.0} | {:.0} | {:.2} | {} | {} |\n",
-            drill.name,
-            calls.counted,
-            checks.counted,
-            calls.counted / checks.counted,
-            millions(&calls),
-            millions(&checks)
-        );
+        whole += &row(bench, &drill, &[LIBRARY, PEER, QUEUES])?;
+        single += &row(bench, &drill, &[SINGLES, PEER_CHECKS])?;
     }
     println!(
         "| whole drills | library | peer | ratio | queues | library, M/s | peer, M/s | queues, M/s |\n\
@@ -55,8 +32,20 @@ pub fn rows(bench: &mut Bench) -> io::Result<()> {
     Ok(())
 }
 
-fn millions(figures: &Figures) -> String {
-    format!("{:.2}", figures.speed / 1e6)
+/// Instructions of each side, the ratio of the first two after these, and then
+/// the speeds.
+fn row(bench: &mut Bench, drill: &Drill, sides: &[&str]) -> io::Result<String> {
+    let figures: Vec<Figures> = sides
+        .iter()
+        .map(|side| bench.figures(side, drill))
+        .collect::<io::Result<_>>()?;
+    let mut cells = vec![drill.name.clone()];
+    cells.extend(figures.iter().map(|side| format!("{:.0}", side.counted)));
+    let ratio = figures[0].counted / figures[1].counted;
+    cells.insert(3, format!("{ratio:.2}"));
+    let speeds = figures.iter().map(|side| side.speed / 1e6);
+    cells.extend(speeds.map(|speed| format!("{speed:.2}")));
+    Ok(format!("| {} |\n", cells.join(" | ")))
 }
 
 const SIDES: [(&str, &str, &str); 5] = [
