@@ -2,7 +2,7 @@
 
 use second::answer::*;
 use second::events::Event;
-use second::file::{read_event, read_header, write_event, write_header, Reading};
+use second::file::{read_event, read_header, write_event, write_header, Reading, Written};
 use second::number;
 use second::opening::open;
 use second::record::Record;
@@ -54,29 +54,33 @@ fn positions_at_and_past_the_end() {
     }
 }
 
+/// Writes into parts of all lengths: one that is too short is 12 and stays as
+/// it was, a longer one keeps what is behind. Gives the bytes written.
+fn into_every_length(needed: usize, write: impl Fn(&mut [u8]) -> Written) -> Vec<u8> {
+    for lent in 0..needed {
+        let mut part = vec![FILL; lent];
+        let written = write(&mut part);
+        assert_eq!((written.answer, written.count), (PART_SHORT, 0));
+        assert_eq!(part, vec![FILL; lent]);
+    }
+    let mut bytes = Vec::new();
+    for lent in needed..needed + 3 {
+        let mut part = vec![FILL; lent];
+        let written = write(&mut part);
+        assert_eq!((written.answer, written.count), (DONE, needed));
+        assert!(part[needed..].iter().all(|&byte| byte == FILL));
+        bytes = part[..needed].to_vec();
+    }
+    bytes
+}
+
 #[test]
 fn events_into_every_length() {
     for (kind, argument, needed) in [(1, 0, 2), (2, 127, 2), (3, 128, 3), (4, 2_097_151, 4)] {
-        for lent in 0..needed + 3 {
-            let mut part = vec![FILL; lent];
-            let written = write_event(kind, argument, &mut part);
-            if lent < needed {
-                assert_eq!((written.answer, written.count), (PART_SHORT, 0));
-                assert_eq!(part, vec![FILL; lent]);
-            } else {
-                assert_eq!((written.answer, written.count), (DONE, needed));
-                assert!(part[needed..].iter().all(|&byte| byte == FILL));
-                let event = Event::of(kind, argument).unwrap();
-                let reading = read_event(&part[..needed], 0);
-                assert_eq!(
-                    reading,
-                    Reading::Event {
-                        event,
-                        next: needed
-                    }
-                );
-            }
-        }
+        let bytes = into_every_length(needed, |part| write_event(kind, argument, part));
+        let event = Event::of(kind, argument).unwrap();
+        let next = needed;
+        assert_eq!(read_event(&bytes, 0), Reading::Event { event, next });
     }
 }
 
@@ -98,20 +102,10 @@ fn headers_into_every_length() {
     let long = [0, 1].repeat(128);
     for (nodes, destination, list) in [(1, 0, &[][..]), (3, 2, &[0, 1, 1, 2]), (2, 1, &long)] {
         let needed = 3 + list.len() + usize::from(list.len() >= 256);
-        for lent in 0..needed + 3 {
-            let mut part = vec![FILL; lent];
-            let written = write_header(nodes, destination, list, &mut part);
-            if lent < needed {
-                assert_eq!((written.answer, written.count), (PART_SHORT, 0));
-                assert_eq!(part, vec![FILL; lent]);
-            } else {
-                assert_eq!((written.answer, written.count), (DONE, needed));
-                assert!(part[needed..].iter().all(|&byte| byte == FILL));
-                let header = read_header(&part, 0);
-                assert_eq!(header.next, Some(needed));
-                assert_eq!(header.opening, open(nodes, destination, list));
-            }
-        }
+        let write = |part: &mut [u8]| write_header(nodes, destination, list, part);
+        let header = read_header(&into_every_length(needed, write), 0);
+        assert_eq!(header.next, Some(needed));
+        assert_eq!(header.opening, open(nodes, destination, list));
     }
 }
 
