@@ -30,6 +30,7 @@ pub fn open<F: Flight>(file: &[u8]) -> Result<(Net<F>, usize), (u32, usize)> {
     Ok((net, at))
 }
 
+/// The record of a list whose links are good.
 fn opened<F: Flight>(nodes: usize, destination: usize, list: &[usize]) -> Net<F> {
     let mut net = Net {
         nodes,
@@ -56,6 +57,12 @@ fn opened<F: Flight>(nodes: usize, destination: usize, list: &[usize]) -> Net<F>
         stranded: 0,
         down: 0,
     };
+    line_up(&mut net, list);
+    net
+}
+
+/// Each node's ends in a row, and the lowest that is Out.
+fn line_up<F>(net: &mut Net<F>, list: &[usize]) {
     for &v in list {
         net.start[v + 1] += 1;
         net.alive[v] += 1;
@@ -74,7 +81,6 @@ fn opened<F: Flight>(nodes: usize, destination: usize, list: &[usize]) -> Net<F>
             net.first[v] = x as u16;
         }
     }
-    net
 }
 
 /// Takes away nodes that no arrow of those left reaches; a closed walk stays.
