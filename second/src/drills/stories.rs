@@ -9,14 +9,20 @@ use crate::make::network::Network;
 use crate::number;
 
 pub fn all() -> Vec<Stored> {
-    let mut drills = bounces_and_news();
-    drills.extend(turns());
-    drills.extend(failures());
-    drills.extend(lanes());
-    drills.extend(flights());
-    drills.extend(limits());
-    drills.extend(readings());
-    drills
+    let parts = [
+        bounces(),
+        news(),
+        turns(),
+        turns_of_one_node(),
+        failures_under_packets(),
+        failures_of_ends(),
+        lanes(),
+        flights(),
+        large_networks(),
+        all_kinds(),
+        readings(),
+    ];
+    parts.into_iter().flatten().collect()
 }
 
 /// Destination 0, these links and these events.
@@ -51,11 +57,8 @@ fn settled(nodes: u32, links: &[u32], events: &[u32], most: usize) -> Vec<u8> {
     history.bytes
 }
 
-fn bounces_and_news() -> Vec<Stored> {
+fn bounces() -> Vec<Stored> {
     let beside = [3, 2, 1, 2, 1, 0, 3, 0];
-    let lone_pair = [1, 2];
-    let two_ways = [1, 2, 1, 2, 1, 0];
-    let chain = [0, 1, 1, 2];
     vec![
         stored(
             "bounce-past-a-lower-link",
@@ -77,6 +80,14 @@ fn bounces_and_news() -> Vec<Stored> {
             "the packet with the news and a bounced one are lost, a third brings the news",
             settled(3, &[1, 2, 1, 0], &[1, 1, 1, 2, 2, 0, 3, 1, 3, 1, 1, 1], 20),
         ),
+    ]
+}
+
+fn news() -> Vec<Stored> {
+    let lone_pair = [1, 2];
+    let two_ways = [1, 2, 1, 2, 1, 0];
+    let chain = [0, 1, 1, 2];
+    vec![
         stored(
             "news-and-out-the-same-link",
             "news takes the last Out end: a turn in the same event, out the way it came",
@@ -102,7 +113,6 @@ fn bounces_and_news() -> Vec<Stored> {
 
 fn turns() -> Vec<Stored> {
     let away: Vec<u32> = (0..7).flat_map(|node| [node, node + 1]).collect();
-    let outwards: Vec<u32> = (0..8).flat_map(|node| [1, node + 1]).collect();
     let zigzag = [1, 0, 1, 2, 3, 2, 3, 4, 5, 4, 5, 6, 7, 6];
     vec![
         stored(
@@ -125,6 +135,12 @@ fn turns() -> Vec<Stored> {
             "two nodes cut off from the destination turn again and again",
             settled(3, &[1, 2, 2, 0], &[4, 1, 1, 1], 60),
         ),
+    ]
+}
+
+fn turns_of_one_node() -> Vec<Stored> {
+    let outwards: Vec<u32> = (0..8).flat_map(|node| [1, node + 1]).collect();
+    vec![
         stored(
             "turn-second-is-partial",
             "after a turn of some ends the next takes just the others",
@@ -153,7 +169,7 @@ fn turns() -> Vec<Stored> {
     ]
 }
 
-fn failures() -> Vec<Stored> {
+fn failures_under_packets() -> Vec<Stored> {
     let three = [1, 0, 2, 0, 3, 0];
     vec![
         stored(
@@ -181,6 +197,11 @@ fn failures() -> Vec<Stored> {
             "a failure that takes nothing is one event all the same",
             of(3, &[1, 0, 2, 0], &[4, 1, 4, 1, 1, 2, 1, 1, 2, 0]),
         ),
+    ]
+}
+
+fn failures_of_ends() -> Vec<Stored> {
+    vec![
         stored(
             "failure-clears-marks",
             "a marked end of a failed link does not turn",
@@ -290,7 +311,7 @@ fn flights() -> Vec<Stored> {
     ]
 }
 
-fn limits() -> Vec<Stored> {
+fn large_networks() -> Vec<Stored> {
     let towards: Vec<u32> = (1..NODES).flat_map(|node| [node, 0]).collect();
     let away: Vec<u32> = (1..NODES).flat_map(|node| [0, node]).collect();
     let chain: Vec<u32> = (1..NODES).flat_map(|node| [node - 1, node]).collect();
@@ -298,8 +319,6 @@ fn limits() -> Vec<Stored> {
     let beside = [0, 1].repeat(LINKS as usize);
     let mut spent: Vec<u32> = (0..LINKS).flat_map(|link| [1, 1, 4, link]).collect();
     spent.extend([1, 1, 4, LINKS, 2, 2 * LINKS - 1, 2, 2 * LINKS]);
-    let kinds: Vec<u32> = (1..=4).flat_map(|kind| [kind, 0, kind, 1]).collect();
-    let largest: Vec<u32> = (1..=4).flat_map(|kind| [kind, NUMBER]).collect();
     vec![
         stored(
             "star-towards",
@@ -321,6 +340,13 @@ fn limits() -> Vec<Stored> {
             "each of 256 links between two nodes is used and fails",
             of(2, &beside, &spent),
         ),
+    ]
+}
+
+fn all_kinds() -> Vec<Stored> {
+    let kinds: Vec<u32> = (1..=4).flat_map(|kind| [kind, 0, kind, 1]).collect();
+    let largest: Vec<u32> = (1..=4).flat_map(|kind| [kind, NUMBER]).collect();
+    vec![
         stored(
             "one-node-all-kinds",
             "one node without a link: sends deliver, all else is 6",
