@@ -36,3 +36,32 @@ pub fn has_method(text: &str, owner: &str, name: &str) -> bool {
         .filter_map(|line| line.strip_prefix("    "))
         .any(|line| declared(line) == Some(name))
 }
+
+/// What a public function says of its callers and of its result.
+pub struct Contract<'a> {
+    pub name: &'a str,
+    pub requires: bool,
+    pub ensures: bool,
+}
+
+/// The contracts of a file's public functions: clauses stand between the line
+/// that names a function and the brace that opens its body.
+pub fn contracts(text: &str) -> Vec<Contract<'_>> {
+    let lines: Vec<&str> = text.lines().map(str::trim).collect();
+    let public = |line: &str| line.starts_with("pub fn ") || line.starts_with("pub extern ");
+    let starts = (0..lines.len()).filter(|&at| public(lines[at]));
+    let clause = |at: usize, word: &str| {
+        let signature = lines[at..].iter().take_while(|line| !line.ends_with('{'));
+        let mut clauses = signature.map(|line| line.starts_with(word));
+        clauses.any(|found| found)
+    };
+    starts
+        .filter_map(|at| {
+            Some(Contract {
+                name: declared(lines[at])?,
+                requires: clause(at, "requires "),
+                ensures: clause(at, "ensures "),
+            })
+        })
+        .collect()
+}

@@ -5,6 +5,7 @@ pub mod architecture;
 pub mod code;
 pub mod definitions;
 pub mod example;
+pub mod exceptions;
 pub mod held;
 pub mod links;
 pub mod names;

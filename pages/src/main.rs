@@ -4,7 +4,7 @@ use std::path::Path;
 use std::process::ExitCode;
 
 use pages::tree::Tree;
-use pages::{architecture, example, links, promises};
+use pages::{architecture, example, exceptions, links, promises};
 
 const HELP: &str = "\
 pages ROOT                  the names and the links of the pages
@@ -35,6 +35,7 @@ fn checked(tree: &Tree) -> Vec<String> {
     let text = |page: &str| tree.read(page).unwrap_or_default();
     let mut faults = promises::faults(tree, &text(promises::PAGE));
     faults.extend(architecture::faults(tree, &text(architecture::PAGE)));
+    faults.extend(exceptions::faults(tree, &text(exceptions::PAGE)));
     for page in tree.pages() {
         faults.extend(links::faults(tree, &page, &text(&page)));
     }

@@ -124,6 +124,19 @@ impl Tree {
         edits
     }
 
+    /// The text of every file of code, with its crate.
+    pub fn sources(&self) -> Vec<(String, String)> {
+        let mut sources = Vec::new();
+        for owner in self.crates() {
+            let src = format!("crates/{owner}/src");
+            for file in entries(&self.root.join(&src)) {
+                let text = self.read(&format!("{src}/{file}"));
+                sources.extend(text.map(|text| (owner.clone(), text)));
+            }
+        }
+        sources
+    }
+
     /// The crates of crates.txt, which names each with those that it uses.
     pub fn crates(&self) -> Vec<String> {
         let list = self.read("crates.txt").unwrap_or_default();

@@ -2,9 +2,10 @@
 
 use std::path::Path;
 
+use pages::code::contracts;
 use pages::names::{parse, Column};
 use pages::tree::Tree;
-use pages::{architecture, links, promises};
+use pages::{architecture, exceptions, links, promises};
 
 fn tree() -> Tree {
     Tree::new(Path::new(concat!(env!("CARGO_MANIFEST_DIR"), "/..")))
@@ -117,6 +118,32 @@ fn the_steps_and_crates_are_those_of_the_tree() {
             "docs/ARCHITECTURE.md: walks is no crate"
         ]
     );
+}
+
+#[test]
+fn the_exceptions_are_those_of_the_code() {
+    let page = tree().read(exceptions::PAGE).expect("the page");
+    let faults = |page: &str| exceptions::faults(&tree(), page);
+    assert_eq!(faults(&page), Vec::<String>::new());
+    assert_eq!(
+        faults(&page.replace("`moves::other`", "`moves::wide`")),
+        [
+            "docs/EXCEPTIONS.md: `moves::other` requires something",
+            "docs/EXCEPTIONS.md: `moves::wide` requires nothing"
+        ]
+    );
+}
+
+#[test]
+fn a_clause_belongs_to_its_function() {
+    let code = "pub fn a(\n    x: u8,\n) -> u8\n    ensures { r }\n{\n    x\n}\n\n\
+                pub fn b() {\n}\n\nfn c()\n    requires { p }\n{\n}\n";
+    let found: Vec<_> = contracts(code)
+        .iter()
+        .map(|c| (c.name.to_string(), c.requires, c.ensures))
+        .collect();
+    let expected = [("a", false, true), ("b", false, false)];
+    assert_eq!(found, expected.map(|(name, r, e)| (name.to_string(), r, e)));
 }
 
 #[test]
