@@ -4,6 +4,7 @@
 pub mod answer;
 pub mod calls;
 pub mod claims;
+pub mod departure;
 pub mod drills;
 pub mod events;
 pub mod file;
