@@ -18,6 +18,7 @@ pub mod Bound
 pub mod Agreement
 pub mod Turns
 pub mod Places
+pub mod Full
 pub mod Cases
 pub mod Numbers
 pub mod Format
