@@ -3,7 +3,9 @@ use crate::asked::Asked;
 use crate::asked::none;
 use arrays::SLOTS;
 use arrays::Told;
+use model::FAIL;
 use model::Handled;
+use model::SEND;
 use model::Went;
 use moves::keep_off;
 use moves::oldest;
@@ -22,11 +24,6 @@ ghost use Rattle.model.specs.Fail.{off};
 ghost use Rattle.arrays.specs.Flight.{Slots, packets};
 ghost use Rattle.arrays.specs.Told.{left, passed, flies};
 ghost use Rattle.flight.specs.Asked.{Listed};
-
-// The kinds of events that the packets must tell apart.
-const SEND: u32 = 1;
-
-const FAIL: u32 = 4;
 
 // How many packets are on link l.
 fn on_link(lane: &[u16; SLOTS], flying: usize, l: usize) -> usize

@@ -2,7 +2,9 @@
 use crate::asked::Asked;
 use crate::asked::none;
 use arrays::Told;
+use model::FAIL;
 use model::Handled;
+use model::SEND;
 use model::Went;
 use moves::wide;
 use queues::ROOM;
@@ -22,11 +24,6 @@ ghost use Rattle.model.specs.Limits.{endsMost, flightMost};
 ghost use Rattle.arrays.specs.Told.{left, passed, flies};
 ghost use Rattle.queues.specs.Queue.{room, flown, Roomy, Queued};
 ghost use Rattle.flight.specs.Asked.{Queueing};
-
-// The kinds of events that the packets must tell apart.
-const SEND: u32 = 1;
-
-const FAIL: u32 = 4;
 
 // What the packets tell an event.
 pub fn ask<'a>(

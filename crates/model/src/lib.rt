@@ -1,6 +1,11 @@
-// What code and definitions share: the limits, and the words of an event's answer.
+// What code and definitions share: the limits, the kinds of events, and the words of an event's answer.
+pub mod kinds;
 pub mod limits;
 
+pub use kinds::DELIVER;
+pub use kinds::FAIL;
+pub use kinds::LOSE;
+pub use kinds::SEND;
 pub use limits::ENDS;
 pub use limits::EVENTS;
 pub use limits::FILE;

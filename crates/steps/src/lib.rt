@@ -17,6 +17,10 @@ use arrays::Told;
 use deliver::deliver_step;
 use fail::fail_step;
 use lose::lose_step;
+pub use model::DELIVER;
+pub use model::FAIL;
+pub use model::LOSE;
+pub use model::SEND;
 use send::send_step;
 pub use tally::Step;
 use tally::bare;
@@ -30,15 +34,6 @@ ghost use Rattle.model.specs.Formed.{wellFormed};
 ghost use Rattle.steps.specs.Call.{call};
 ghost use Rattle.arrays.specs.Told.{tells, flies};
 ghost use Rattle.steps.specs.Steps.{stateWith, outcomeOf, Chained, Whole, Sound};
-
-// The kinds of events, as a drill file numbers them.
-pub const SEND: u32 = 1;
-
-pub const DELIVER: u32 = 2;
-
-pub const LOSE: u32 = 3;
-
-pub const FAIL: u32 = 4;
 
 // One event, from what the packets in flight tell it; the caller moves these as the answer says.
 pub fn step<'a>(
