@@ -14,7 +14,7 @@ use Rattle.model.specs.Lanes.{onLane, less}
 use Rattle.model.specs.Fail.{off}
 use Rattle.arrays.specs.declared.Told.{Told}
 
--- what they tell it, by its kind and argument: the oldest of its lane, or how many are on its link
+-- what they tell it, by its kind and argument: a send nothing, a failure how many are on its link, else the oldest of its lane
 abbrev pub oldestIn : List Packet → Told
 oldestIn [] = record { there = false; number = 0; bit = false; gone = 0 }
 oldestIn (p ∷ ps) = record { there = true; number = p .number; bit = p .bit; gone = 0 }
@@ -23,7 +23,7 @@ abbrev pub onLink : List Packet → ℕ → Told
 onLink flight l = record { there = false; number = 0; bit = false; gone = length flight - length (off l flight) }
 
 unfoldable pub tells : List Packet → ℕ → ℕ → Told
-tells flight kind a = cond (eqb kind 4) (onLink flight a) (oldestIn (onLane a flight))
+tells flight kind a = cond (eqb kind 1) (oldestIn []) (cond (eqb kind 4) (onLink flight a) (oldestIn (onLane a flight)))
 
 -- an accepted delivery or loss takes the oldest packet of its lane, an accepted failure those on its link
 abbrev pub without : ℕ → ℕ → List Packet → List Packet

@@ -33,7 +33,7 @@ pub struct Tally {
     pub stranded: u32,
 }
 
-// What the packets in flight tell an event: the oldest of its lane, or how many are on its link.
+// What the packets in flight tell an event: the oldest of its lane, or how many are on its link; a send nothing.
 pub struct Told {
     pub there: bool,
     pub number: u32,

@@ -106,22 +106,26 @@ absent gone = record { there = false; number = 0; bit = false; gone = gone }
 module _ (flight : List Packet) (kind a : ℕ) where
   pub tells-link : (gone : ℕ) → kind ≡ 4 → gone + length (off a flight) ≡ length flight → absent gone ≡ tells flight kind a
   unfolding tells
-  tells-link gone e h = rw (eq-eqb kind 4 e) (ap absent (omega arith))
+  tells-link gone e h = rw e (ap absent (omega arith))
 
-  module _ (n : kind ≡ 4 → ⊥) where
+  pub tells-send : kind ≡ 1 → absent 0 ≡ tells flight kind a
+  unfolding tells
+  tells-send e = rw e
+
+  module _ (s : kind ≡ 1 → ⊥) (n : kind ≡ 4 → ⊥) where
     pub tells-none : onLane a flight ≡ [] → absent 0 ≡ tells flight kind a
     unfolding tells
-    tells-none e = rw (ne-eqb kind 4 n, e)
+    tells-none e = rw (ne-eqb kind 1 s, ne-eqb kind 4 n, e)
 
     pub tells-oldest : {p : Packet} {rest : List Packet} → onLane a flight ≡ p ∷ rest
         → record { there = true; number = p .number; bit = p .bit; gone = 0 } ≡ tells flight kind a
     unfolding tells
-    tells-oldest e = rw (ne-eqb kind 4 n, e)
+    tells-oldest e = rw (ne-eqb kind 1 s, ne-eqb kind 4 n, e)
 
     -- told of none, the lane has none
     pub tells-empty : tells flight kind a .there ≡ false → onLane a flight ≡ []
     unfolding tells
-    tells-empty h = go (onLane a flight) (rw (ne-eqb kind 4 n) at h)
+    tells-empty h = go (onLane a flight) (rw (ne-eqb kind 1 s, ne-eqb kind 4 n) at h)
       where
         go : (ps : List Packet) → oldestIn ps .there ≡ false → ps ≡ []
         go [] e = refl
@@ -141,9 +145,12 @@ module _ (number lane : List ℕ) (bit : List Bool) (flying kind a : ℕ) where
         at = λ z. absurd (clash z refl);
       })
 
-  module _ (n : kind ≡ 4 → ⊥) where
+  pub listed-send : (r : Asked) → r ≡ record { told = absent 0; at = 0 } → kind ≡ 1 → Listed lane flying flight kind a r
+  listed-send r e k = rw e (record { told = tells-send flight kind a k; at = λ z. absurd (clash z refl) })
+
+  module _ (s : kind ≡ 1 → ⊥) (n : kind ≡ 4 → ⊥) where
     none-listed : (r : Asked) → r ≡ record { told = absent 0; at = 0 } → onLane a flight ≡ [] → Listed lane flying flight kind a r
-    none-listed r e h = rw e (record { told = tells-none flight kind a n h; at = λ z. absurd (clash z refl) })
+    none-listed r e h = rw e (record { told = tells-none flight kind a s n h; at = λ z. absurd (clash z refl) })
 
     pub listed-past : (r : Asked) → r ≡ record { told = absent 0; at = 0 } → ((i : ℕ) → i < flying → getD lane i 0 < endsMost) → endsMost ≤ a
         → Listed lane flying flight kind a r
@@ -162,7 +169,7 @@ module _ (number lane : List ℕ) (bit : List Bool) (flying kind a : ℕ) where
       listed-oldest l h =
           let oldest = lane-first a (packetAt number lane bit) flying (omega (arith, found)) in
           record {
-            told = tells-oldest flight kind a n (oldest .1 ∙ ap (λ j. packetAt number lane bit j ∷ oldest .0) (sym found));
+            told = tells-oldest flight kind a s n (oldest .1 ∙ ap (λ j. packetAt number lane bit j ∷ oldest .0) (sym found));
             at = λ z. (l, found, h);
           }
 
@@ -186,7 +193,7 @@ module _ (kind a : ℕ) (flight : List Packet) where
       left-less = rw (ne-eqb kind 1 n, ne-eqb kind 4 m)
 
       pub left-none : (told : Told) → told ≡ tells flight kind a → told .there ≡ false → flight ≡ left kind a 0 flight
-      left-none told e h = sym (less-none a flight (tells-empty flight kind a m (ap (λ (t : Told). t .there) (sym e) ∙ h))) ∙ left-less
+      left-none told e h = sym (less-none a flight (tells-empty flight kind a n m (ap (λ (t : Told). t .there) (sym e) ∙ h))) ∙ left-less
 
 -- the same, from the arrays
 module _ {number lane number′ lane′ : List ℕ} {bit bit′ : List Bool} {i last : ℕ} where

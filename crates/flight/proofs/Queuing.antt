@@ -36,29 +36,36 @@ module _ (first : List ℕ) (flight : List Packet) (kind a : ℕ) where
   unfolding tells
   tells-link k g e =
       let n : g ≡ length flight - length (off a flight) = omega (arith, e) in
-      rw (eq-eqb kind 4 k) (ap (λ m. nothing m .told) n)
+      rw k (ap (λ m. nothing m .told) n)
 
   pub told-link : kind ≡ 4 → (g : ℕ) → g + length (off a flight) ≡ length flight → (r : Asked) → r ≡ nothing g → Queueing first flight kind a r
   told-link k g e r same = rw same record { told = tells-link k g e; at = λ t. absurd (true≢false (sym t)) }
 
-  tells-oldest : (kind ≡ 4 → ⊥) → (ps : List Packet) → onLane a flight ≡ ps → oldestIn ps ≡ tells flight kind a
+  tells-send : kind ≡ 1 → nothing 0 .told ≡ tells flight kind a
   unfolding tells
-  tells-oldest k ps e = rw (ne-eqb kind 4 k, e)
+  tells-send k = rw k
 
-  pub told-none : (kind ≡ 4 → ⊥) → onLane a flight ≡ [] → (r : Asked) → r ≡ nothing 0 → Queueing first flight kind a r
-  told-none k e r same = rw same record { told = tells-oldest k [] e; at = λ t. absurd (true≢false (sym t)) }
+  pub told-send : kind ≡ 1 → (r : Asked) → r ≡ nothing 0 → Queueing first flight kind a r
+  told-send k r same = rw same record { told = tells-send k; at = λ t. absurd (true≢false (sym t)) }
 
-  told-oldest : (kind ≡ 4 → ⊥) → a < endsMost → (p : Packet) (rest : List Packet) → onLane a flight ≡ p ∷ rest → getD first a 0 < room
+  tells-oldest : (kind ≡ 1 → ⊥) → (kind ≡ 4 → ⊥) → (ps : List Packet) → onLane a flight ≡ ps → oldestIn ps ≡ tells flight kind a
+  unfolding tells
+  tells-oldest s k ps e = rw (ne-eqb kind 1 s, ne-eqb kind 4 k, e)
+
+  pub told-none : (kind ≡ 1 → ⊥) → (kind ≡ 4 → ⊥) → onLane a flight ≡ [] → (r : Asked) → r ≡ nothing 0 → Queueing first flight kind a r
+  told-none s k e r same = rw same record { told = tells-oldest s k [] e; at = λ t. absurd (true≢false (sym t)) }
+
+  told-oldest : (kind ≡ 1 → ⊥) → (kind ≡ 4 → ⊥) → a < endsMost → (p : Packet) (rest : List Packet) → onLane a flight ≡ p ∷ rest → getD first a 0 < room
       → Queueing first flight kind a (found (p .number) (p .bit) (getD first a 0))
-  told-oldest k l p rest e h = record { told = tells-oldest k (p ∷ rest) e; at = λ t. (l, refl, h) }
+  told-oldest s k l p rest e h = record { told = tells-oldest s k (p ∷ rest) e; at = λ t. (l, refl, h) }
 
 pub told-first : {lane first last after : List ℕ} {used : ℕ} → Queued lane first last after used → (number : List ℕ) (bit : List Bool)
-    → (kind a i : ℕ) → (kind ≡ 4 → ⊥) → a < endsMost → i ≡ getD first a 0 → i < room
+    → (kind a i : ℕ) → (kind ≡ 1 → ⊥) → (kind ≡ 4 → ⊥) → a < endsMost → i ≡ getD first a 0 → i < room
     → Queueing first (flown number lane bit used) kind a (found (getD number i 0) (getD bit i false) i)
-told-first {lane} {first} {used = used} q number bit kind a i k l f h =
+told-first {lane} {first} {used = used} q number bit kind a i s k l f h =
     let r : getD first a 0 < room = omega (arith, f, h) in
     let o = queued-oldest q number bit a l r in
-    rw f (told-oldest first (flown number lane bit used) kind a k l (packetAt number lane bit (getD first a 0)) (o .0) (o .1) r)
+    rw f (told-oldest first (flown number lane bit used) kind a s k l (packetAt number lane bit (getD first a 0)) (o .0) (o .1) r)
 
 -- ---- what an event leaves
 -- taking the oldest off a lane that has none changes nothing
@@ -89,7 +96,7 @@ module _ (kind a : ℕ) (flight : List Packet) where
   unfolding tells
   left-none s f first r q e =
       let t : tells flight kind a .there ≡ false = ap (λ z. z .there) (sym (q .told)) ∙ e in
-      sym (less-none a flight (none-there (onLane a flight) (rw (ne-eqb kind 4 f) at t))) ∙ left-less s f
+      sym (less-none a flight (none-there (onLane a flight) (rw (ne-eqb kind 1 s, ne-eqb kind 4 f) at t))) ∙ left-less s f
 
   pub left-refused : (answer : ℕ) → (answer ≡ 0 → ⊥) → flight ≡ left kind a answer flight
   left-refused answer e = rw (ne-eqb answer 0 e) (elim (look (eqb kind 1)) [

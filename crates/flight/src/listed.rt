@@ -54,6 +54,9 @@ pub fn ask<'a>(
     requires { ⌜ (flying ≤ flightMost) × ((i : ℕ) → i < flying → getD (now lane) i 0 < endsMost) ⌝ }
     ensures { λ r. ⌜ Listed (now (lane .entry)) flying (packets (now (number .entry)) (now (lane .entry)) (now (bit .entry)) flying) kind argument r ⌝ }
 {
+    if kind == SEND {
+        return none(0);
+    }
     if kind == FAIL {
         return none(on_link(lane, flying, argument));
     }

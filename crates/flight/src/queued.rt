@@ -38,6 +38,9 @@ pub fn ask<'a>(
     requires { ⌜ used ≤ room ⌝ }
     ensures { λ r. ⌜ ((last after : List ℕ) → Queued (now (lane .entry)) (now (first .entry)) last after used → Queueing (now (first .entry)) (flown (now (number .entry)) (now (lane .entry)) (now (bit .entry)) used) kind argument r) ⌝ }
 {
+    if kind == SEND {
+        return none(0);
+    }
     if kind == FAIL {
         if model::LINKS <= argument {
             return none(0);
