@@ -1,2 +1,3 @@
-pub mod Queuing
+pub mod Leaving
 pub mod Listing
+pub mod Queuing

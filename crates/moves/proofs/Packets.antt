@@ -12,9 +12,8 @@ use lib.Seq.{getD-set-same, getD-set-other}
 use borrow.Author.Tests.{lt-ltb, le-ltb, ltb-true, ltb-false, eqb-true, eqb-false, eq-eqb, ne-eqb}
 use Rattle.model.specs.Limits.{flightMost}
 use Rattle.model.specs.Below.{first, tab}
-use Rattle.model.specs.State.{Packet, State, linkOf}
-use Rattle.model.specs.Outcome.{Outcome}
-use Rattle.model.specs.Lanes.{onLane, less, withOldest}
+use Rattle.model.specs.State.{Packet, linkOf}
+use Rattle.model.specs.Lanes.{onLane, less}
 use Rattle.model.specs.Fail.{off}
 use Rattle.model.proofs.Below.{look}
 use Rattle.moves.proofs.Chains.{first-least}
@@ -59,13 +58,13 @@ module _ (x : ℕ) where
     | inr a ↦ rw a (lane-empty (λ i. f (suc i)) k (omega (arith, first-after (on f) k a)))
   ]
 
-  pub lane-oldest : (f : ℕ → Packet) (k : ℕ) → first (on f) 0 k < k → (s : State) (g : Packet → Outcome)
-      → withOldest s (onLane x (tab f k)) g ≡ g (f (first (on f) 0 k))
+  -- the first packet found is the oldest
+  pub lane-oldest : (f : ℕ → Packet) (k : ℕ) → first (on f) 0 k < k → (rest : List Packet) × (onLane x (tab f k) ≡ f (first (on f) 0 k) ∷ rest)
   unfolding tab onLane
-  lane-oldest f zero h s g = absurd (omega arith)
-  lane-oldest f (suc k) h s g = elim (look (on f 0)) [
-    | inl a ↦ rw (a, first-here (on f) k a)
-    | inr a ↦ rw (a, first-after (on f) k a) (lane-oldest (λ i. f (suc i)) k (omega (arith, first-after (on f) k a)) s g)
+  lane-oldest f zero h = absurd (omega arith)
+  lane-oldest f (suc k) h = elim (look (on f 0)) [
+    | inl a ↦ rw (a, first-here (on f) k a) (onLane x (tab (λ i. f (suc i)) k), refl)
+    | inr a ↦ rw (a, first-after (on f) k a) (lane-oldest (λ i. f (suc i)) k (omega (arith, first-after (on f) k a)))
   ]
 
   -- without the oldest, those before it stay and those after it move up
@@ -95,16 +94,16 @@ module _ (number lane : List ℕ) (bit : List Bool) where
   abbrev at : ℕ → Packet
   at = packetAt number lane bit
 
-  -- a packet put in
-  pub put-in : (k n x : ℕ) (b : Bool) → Slots number lane bit → k < flightMost
+  -- a packet put into slot k
+  pub put-at : (k n x : ℕ) (b : Bool) → k < length number → k < length lane → k < length bit
       → packets (set number k n) (set lane k x) (set bit k b) (k + 1) ≡ packets number lane bit k ++ (record { number = n; lane = x; bit = b } ∷ [])
-  put-in k n x b s h =
+  put-at k n x b hn hl hb =
       rw (
         add-one,
         tab-snoc (packetAt (set number k n) (set lane k x) (set bit k b)) k,
-        getD-set-same number k n 0 (omega (arith, s .number-long)),
-        getD-set-same lane k x 0 (omega (arith, s .lane-long)),
-        getD-set-same bit k b false (omega (arith, s .bit-long)),
+        getD-set-same number k n 0 hn,
+        getD-set-same lane k x 0 hl,
+        getD-set-same bit k b false hb,
       )
       (ap (λ l. l ++ (record { number = n; lane = x; bit = b } ∷ [])) (tab-same (packetAt (set number k n) (set lane k x) (set bit k b)) at k other))
     where
@@ -112,6 +111,10 @@ module _ (number lane : List ℕ) (bit : List Bool) where
       other i l =
           let ne : i ≡ k → ⊥ = λ e. omega arith in
           rw (getD-set-other number k i n 0 ne, getD-set-other lane k i x 0 ne, getD-set-other bit k i b false ne)
+
+  pub put-in : (k n x : ℕ) (b : Bool) → Slots number lane bit → k < flightMost
+      → packets (set number k n) (set lane k x) (set bit k b) (k + 1) ≡ packets number lane bit k ++ (record { number = n; lane = x; bit = b } ∷ [])
+  put-in k n x b s h = put-at k n x b (omega (arith, s .number-long)) (omega (arith, s .lane-long)) (omega (arith, s .bit-long))
 
   -- the oldest packet of a lane taken out
   pub taken-out : (number′ lane′ : List ℕ) (bit′ : List Bool) (x i last : ℕ) → i ≡ first (λ j. eqb (getD lane j 0) x) 0 (suc last) → i < suc last
@@ -124,7 +127,7 @@ module _ (number lane : List ℕ) (bit : List Bool) where
       same j l = rw (rn .entry j l, rl .entry j l, rb .entry j l) (elim (look (ltb j i)) [ inl a ↦ rw a | inr a ↦ rw a ])
 
 -- ---- keeping those off a link
-off-snoc : (l : ℕ) (ps : List Packet) (p : Packet) → off l (ps ++ (p ∷ [])) ≡ cond (eqb (linkOf (p .lane)) l) (off l ps) (off l ps ++ (p ∷ []))
+pub off-snoc : (l : ℕ) (ps : List Packet) (p : Packet) → off l (ps ++ (p ∷ [])) ≡ cond (eqb (linkOf (p .lane)) l) (off l ps) (off l ps ++ (p ∷ []))
 unfolding off
 off-snoc l [] p = refl
 off-snoc l (q ∷ ps) p = elim (look (eqb (linkOf (q .lane)) l)) [

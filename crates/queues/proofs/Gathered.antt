@@ -17,18 +17,11 @@ use Rattle.model.proofs.Below.{look, tab-at}
 use Rattle.arrays.specs.View.{packetAt}
 use Rattle.arrays.specs.Flight.{slots, Slots, packets}
 use Rattle.arrays.proofs.Below.{length-tab, tab-same}
-use Rattle.moves.proofs.Packets.{tab-snoc}
+use Rattle.moves.proofs.Packets.{tab-snoc, put-at}
 use Rattle.queues.specs.Queue.{noLane, standing, flown, Roomy}
+use Rattle.queues.proofs.Standing.{standing-snoc}
 
 -- ---- those that stand
-standing-snoc : (ps : List Packet) (p : Packet) → standing (ps ++ (p ∷ [])) ≡ cond (eqb (p .lane) noLane) (standing ps) (standing ps ++ (p ∷ []))
-unfolding standing
-standing-snoc [] p = refl
-standing-snoc (q ∷ ps) p = elim (look (eqb (q .lane) noLane)) [
-  | inl e ↦ rw e (standing-snoc ps p)
-  | inr e ↦ rw (e, standing-snoc ps p) (elim (look (eqb (p .lane) noLane)) [ inl a ↦ rw a | inr a ↦ rw a ])
-]
-
 pub standing-twice : (ps : List Packet) → standing (standing ps) ≡ standing ps
 unfolding standing
 standing-twice [] = refl
@@ -77,25 +70,6 @@ standing-named p (suc k) h d (suc i) l = elim (look (eqb (p 0 .lane) noLane)) [
   | inl e ↦ rw e (standing-named (λ j. p (suc j)) k (λ j m. h (suc j) (omega arith)) d (suc i) (rw e at l))
   | inr e ↦ rw e (standing-named (λ j. p (suc j)) k (λ j m. h (suc j) (omega arith)) d i (omega (arith, rw e at l)))
 ]
-
--- ---- a packet put into slot k
-put-at : (number lane : List ℕ) (bit : List Bool) (k n x : ℕ) (b : Bool) → k < length number → k < length lane → k < length bit
-    → packets (set number k n) (set lane k x) (set bit k b) (k + 1) ≡ packets number lane bit k ++ (record { number = n; lane = x; bit = b } ∷ [])
-put-at number lane bit k n x b hn hl hb =
-    rw (
-      add-one,
-      tab-snoc (packetAt (set number k n) (set lane k x) (set bit k b)) k,
-      getD-set-same number k n 0 hn,
-      getD-set-same lane k x 0 hl,
-      getD-set-same bit k b false hb,
-    )
-    (ap (λ l. l ++ (record { number = n; lane = x; bit = b } ∷ []))
-    (tab-same (packetAt (set number k n) (set lane k x) (set bit k b)) (packetAt number lane bit) k other))
-  where
-    other : (i : ℕ) → i < k → packetAt (set number k n) (set lane k x) (set bit k b) i ≡ packetAt number lane bit i
-    other i l =
-        let ne : i ≡ k → ⊥ = λ e. omega arith in
-        rw (getD-set-other number k i n 0 ne, getD-set-other lane k i x 0 ne, getD-set-other bit k i b false ne)
 
 -- ---- spreading
 module _ (number lane : List ℕ) (bit : List Bool) where

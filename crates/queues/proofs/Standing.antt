@@ -2,13 +2,12 @@
 use Prim.Native.Nat.{ℕ, zero, suc, _+_, _<_}
 use native.Mathlib.Omega.{arith}
 use native.Mathlib.Numerals.{add-one}
-use mathlib.Core.Path.{_≡_, refl, ap}
+use mathlib.Core.Path.{_≡_, refl, ap, _∙_}
 use mathlib.Core.Logic.{_⊎_, inl, inr}
 use mathlib.Core.Bool.{Bool, false, cond}
 use mathlib.Core.List.{List, [], _∷_, _++_}
 use lib.Dec.{eqb}
-use lib.ListN.{length, set}
-use lib.Seq.{getD-set-same, getD-set-other}
+use lib.ListN.{length, set, length-append}
 use borrow.Author.Tests.{eqb-true, eqb-false, eq-eqb, ne-eqb}
 use Rattle.model.specs.Limits.{linksMost, endsMost}
 use Rattle.model.specs.Below.{tab}
@@ -19,7 +18,7 @@ use Rattle.model.proofs.Below.{look}
 use Rattle.arrays.specs.View.{packetAt}
 use Rattle.arrays.specs.Flight.{packets}
 use Rattle.arrays.proofs.Below.{tab-same}
-use Rattle.moves.proofs.Packets.{tab-snoc}
+use Rattle.moves.proofs.Packets.{tab-snoc, put-at, off-snoc}
 use Rattle.queues.specs.Queue.{room, noLane, standing, flown, Roomy}
 
 -- one number is another, or it is not
@@ -85,18 +84,6 @@ standing-snoc (q ∷ ps) p = elim (look (eqb (q .lane) noLane)) [
   | inr e ↦ rw (e, standing-snoc ps p) (elim (look (eqb (p .lane) noLane)) [ inl a ↦ rw a | inr a ↦ rw a ])
 ]
 
-off-snoc : (l : ℕ) (ps : List Packet) (p : Packet) → off l (ps ++ (p ∷ [])) ≡ cond (eqb (linkOf (p .lane)) l) (off l ps) (off l ps ++ (p ∷ []))
-unfolding off
-off-snoc l [] p = refl
-off-snoc l (q ∷ ps) p = elim (look (eqb (linkOf (q .lane)) l)) [
-  | inl e ↦ rw e (off-snoc l ps p)
-  | inr e ↦ rw (e, off-snoc l ps p) (elim (look (eqb (linkOf (p .lane)) l)) [ inl a ↦ rw a | inr a ↦ rw a ])
-]
-
-length-snoc : (ps : List Packet) (p : Packet) → length (ps ++ (p ∷ [])) ≡ suc (length ps)
-length-snoc [] p = refl
-length-snoc (q ∷ ps) p = ap suc (length-snoc ps p)
-
 -- ---- off a link
 module _ (l : ℕ) where
   -- what is on the link does not stand
@@ -151,7 +138,7 @@ module _ (l : ℕ) where
           stands-on b (p i .lane) e,
           off-snoc l (standing (tab p i)) (p i),
           eq-eqb (linkOf (p i .lane)) l e,
-          length-snoc (standing (tab p i)) (p i),
+          length-append (standing (tab p i)) (p i ∷ []),
         )
         (omega (arith, c))
 
@@ -166,8 +153,8 @@ module _ (l : ℕ) where
             a,
             off-snoc l (standing (tab p i)) (p i),
             ne-eqb (linkOf (p i .lane)) l n,
-            length-snoc (standing (tab p i)) (p i),
-            length-snoc (off l (standing (tab p i))) (p i),
+            length-append (standing (tab p i)) (p i ∷ []),
+            length-append (off l (standing (tab p i))) (p i ∷ []),
           )
           (omega (arith, c))
     ]
@@ -178,18 +165,6 @@ module _ (number lane : List ℕ) (bit : List Bool) where
   pub flown-more : (k n x : ℕ) (b : Bool) → Roomy number lane bit → k < room → x < endsMost
       → flown (set number k n) (set lane k x) (set bit k b) (k + 1) ≡ flown number lane bit k ++ (record { number = n; lane = x; bit = b } ∷ [])
   flown-more k n x b s h l =
-      rw (
-        add-one k,
-        tab-snoc (packetAt (set number k n) (set lane k x) (set bit k b)) k,
-        getD-set-same number k n 0 (omega (arith, s .number-long)),
-        getD-set-same lane k x 0 (omega (arith, s .lane-long)),
-        getD-set-same bit k b false (omega (arith, s .bit-long)),
-        tab-same (packetAt (set number k n) (set lane k x) (set bit k b)) (packetAt number lane bit) k other,
-        standing-snoc (packets number lane bit k) (record { number = n; lane = x; bit = b }),
-        stands x l x refl,
-      )
-    where
-      other : (i : ℕ) → i < k → packetAt (set number k n) (set lane k x) (set bit k b) i ≡ packetAt number lane bit i
-      other i m =
-          let ne : i ≡ k → ⊥ = λ e. omega arith in
-          rw (getD-set-other number k i n 0 ne, getD-set-other lane k i x 0 ne, getD-set-other bit k i b false ne)
+      ap standing (put-at number lane bit k n x b (omega (arith, s .number-long)) (omega (arith, s .lane-long)) (omega (arith, s .bit-long)))
+      ∙ standing-snoc (packets number lane bit k) (record { number = n; lane = x; bit = b })
+      ∙ rw (stands x l x refl)

@@ -166,14 +166,6 @@ module _ (local : List Bool) (flight : List Packet) {r : Step} {t : Tally} where
       let h : length (less x flight) ≡ t .flying = omega (arith, d, l) in
       rw q h
 
-  pub stays-long : {n : ℕ} {w : Went} → r ≡ record { tally = t; answer = 0; handled = handled.Packet n; went = w } → passedBy local flight n w ≡ flight
-      → length flight ≡ t .flying → length (passed local flight (r .handled) (r .went)) ≡ r .tally .flying
-  stays-long q s l = rw (q, s) l
-
-  pub leaves-long : {n x : ℕ} → r ≡ record { tally = t; answer = 0; handled = handled.Packet n; went = went.Lane x }
-      → length flight + 1 ≡ t .flying → length (passed local flight (r .handled) (r .went)) ≡ r .tally .flying
-  leaves-long q l = rw q (length-append flight _ ∙ l)
-
 -- an accepted event has taken the oldest packet
 module _ (local : List Bool) (flight : List Packet) (x : ℕ) (r : Step) (h : r .answer ≡ answers.done) where
   pub took-gives : (node : List ℕ) (live out remote mark : List Bool) (turns : List ℕ) (nodes destination links : ℕ) {o : Outcome}

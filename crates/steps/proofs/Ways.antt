@@ -17,7 +17,7 @@ use Rattle.model.specs.State.{State, Packet, Net, Ends, Counts, lanes, live}
 use Rattle.model.specs.Departure.{outAt, outLink, outEnd, hasLive, hasOut, hasMark, turn, update, door, pass}
 use Rattle.model.specs.Outcome.{gives, leaves, leavesBy, onward}
 use Rattle.model.proofs.Departure.{update-out}
-use Rattle.model.proofs.Below.{look, clash, any-here, any-found, any-false}
+use Rattle.model.proofs.Below.{look, clash, any-here, any-found, any-false, first-found}
 use Rattle.arrays.specs.declared.Tally.{Tally}
 use Rattle.arrays.specs.View.{used, netOf, endsOf, countsOf, stateOf, endsSeen}
 use Rattle.moves.specs.Turned.{Turned}
@@ -27,25 +27,15 @@ use Rattle.moves.proofs.Searches.{first-most, first-by-links}
 use Rattle.moves.proofs.Chains.{first-hit}
 
 -- ---- a node has a way out exactly if the search finds one
-first-found : (p : ℕ → Bool) (n : ℕ) → any p n ≡ true → first p 0 n < n
-first-found p n e = go (look (ltb (first p 0 n) n))
-  where
-    go : (ltb (first p 0 n) n ≡ true) ⊎ (ltb (first p 0 n) n ≡ false) → first p 0 n < n
-    go (inl t) = ltb-true (first p 0 n) n t
-    go (inr t) =
-        let f = any-found p n e in
-        absurd (clash (f .2) (passed n 0 (f .0) (omega (arith, ltb-false (first p 0 n) n t)) (omega arith) (omega (arith, f .1))))
-      where
-        passed : (k i j : ℕ) → i + k ≤ first p i k → i ≤ j → j < i + k → p j ≡ false
-        passed = Rattle.model.proofs.Below.first-none p
-
 module _ (s : State) (v : ℕ) where
   abbrev found : ℕ
   found = first (outAt s v) 0 (lanes s)
 
   pub way-in : hasOut s v ≡ true → found < lanes s
   unfolding hasOut
-  way-in e = first-found (outAt s v) (lanes s) e
+  way-in e =
+      let f = any-found (outAt s v) (lanes s) e in
+      omega (arith, first-found (outAt s v) (lanes s) 0 (f .0) (omega arith) (omega (arith, f .1)) (f .2) .0)
 
   pub has-way : found < lanes s → hasOut s v ≡ true
   unfolding hasOut

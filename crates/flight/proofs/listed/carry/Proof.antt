@@ -4,7 +4,8 @@ use mathlib.Core.Logic.{inl, inr}
 use denote.Ref.{now}
 use Rattle.arrays.specs.Flight.{Slots, packets}
 use Rattle.arrays.specs.Told.{left}
-use Rattle.flight.proofs.Listing.{left-refused, stays-same, flies-on, flies-room}
+use Rattle.flight.proofs.Leaving.{left-refused, flies-on}
+use Rattle.flight.proofs.Listing.{stays-same, flies-room}
 use borrow.Author.Needs.{needs}
 use Rattle.flight.proofs.listed.carry.Statement.{statement}
 use Rattle.flight.proofs.listed.carry.Tie as tie

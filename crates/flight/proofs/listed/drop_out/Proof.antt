@@ -3,7 +3,8 @@ use native.Mathlib.Omega.{arith}
 use mathlib.Core.Path.{_∙_}
 use denote.Ref.{now}
 use Rattle.arrays.specs.Flight.{packets}
-use Rattle.flight.proofs.Listing.{left-send, left-fail, left-less, left-none, rest-there, slots-kept}
+use Rattle.flight.proofs.Leaving.{left-send, left-off, left-less, left-none}
+use Rattle.flight.proofs.Listing.{rest-there, slots-kept}
 use borrow.Author.Needs.{needs}
 use Rattle.flight.proofs.listed.drop_out.Statement.{statement}
 use Rattle.flight.proofs.listed.drop_out.Tie as tie
@@ -21,7 +22,7 @@ returns-2 c =
     let b = c .before .before .before .before .before .before in
     let a = b .args in
     let e = c .keep-off .ensures in (
-      e .1 ∙ left-fail (a .kind) (a .argument) (packets (now (a .number)) (now (a .lane)) (now (a .bit)) (a .flying)) (c .before .before .before .before .before .if1 .left) (c .before .before .before .before .if2 .taken),
+      e .1 ∙ left-off (a .kind) (a .argument) (packets (now (a .number)) (now (a .lane)) (now (a .bit)) (a .flying)) (c .before .before .before .before .before .if1 .left) (c .before .before .before .before .if2 .taken),
       e .0,
       e .2,
     )

@@ -4,7 +4,7 @@ use mathlib.Core.Path.{_∙_}
 use denote.Ref.{now}
 use Rattle.model.specs.Limits.{endsMost}
 use Rattle.arrays.specs.Flight.{packets}
-use Rattle.flight.proofs.Listing.{passed-lane, passed-none, passed-nothing}
+use Rattle.flight.proofs.Leaving.{passed-lane, passed-none, passed-nothing}
 use borrow.Author.Needs.{needs}
 use Rattle.flight.proofs.listed.pass_on.Statement.{statement}
 use Rattle.flight.proofs.listed.pass_on.Tie as tie

@@ -1,12 +1,12 @@
 -- The event's packets go where it is accepted, and the packet that it handled comes. Assumes nothing.
 use native.Mathlib.Omega.{arith}
-use mathlib.Core.Path.{_≡_}
+use mathlib.Core.Path.{_≡_, _∙_}
 use mathlib.Core.Logic.{inl, inr}
 use lib.ListN.{length}
 use denote.Ref.{now}
 use Rattle.arrays.specs.Told.{left}
 use Rattle.queues.specs.Queue.{room, flown, Queued}
-use Rattle.flight.proofs.Queuing.{left-refused, flies-on}
+use Rattle.flight.proofs.Leaving.{left-refused, flies-on}
 use Rattle.flight.proofs.queued.carry.Statement.{statement}
 use Rattle.flight.proofs.queued.carry.Tie as tie
 
@@ -48,8 +48,9 @@ returns c =
     let a = c .before .before .before .before .before .before .before .before .args in
     let s = stays (c .before .before .before .before .before .before .before) in
     let e = c .pass-on .ensures in (
-      flies-on (a .kind) (a .argument) (now (a .local)) (flown (now (a .number)) (now (a .lane)) (now (a .bit)) (a .used)) (a .answer) (a .handled)
-          (a .went) _ _ (s .1) (e .0),
+      e .0
+          ∙ flies-on (a .kind) (a .argument) (now (a .local)) (flown (now (a .number)) (now (a .lane)) (now (a .bit)) (a .used)) (a .answer) (a .handled)
+          (a .went) _ (s .1),
       e .1,
       e .2,
     )

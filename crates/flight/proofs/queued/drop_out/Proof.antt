@@ -4,7 +4,7 @@ use mathlib.Core.Path.{sym, _∙_}
 use denote.Ref.{now}
 use Rattle.queues.specs.Queue.{flown}
 use Rattle.queues.proofs.Oldest.{no-such-link}
-use Rattle.flight.proofs.Queuing.{left-send, left-off, left-less, left-none}
+use Rattle.flight.proofs.Leaving.{left-send, left-off, left-less, left-none}
 use borrow.Author.Needs.{needs}
 use Rattle.flight.proofs.queued.drop_out.Statement.{statement}
 use Rattle.flight.proofs.queued.drop_out.Tie as tie
@@ -74,7 +74,7 @@ returns-5 c =
       λ number bit last q t. (
         q,
         left-none (a .kind) (a .argument) (flown number (now (a .lane)) bit (a .used)) (c .before .before .if1 .left) (c .before .if2 .left)
-            (now (a .first)) (a .asked) t (c .if4 .left),
+            (a .asked .told) (t .told) (c .if4 .left),
       ),
       b .pre .1,
     )

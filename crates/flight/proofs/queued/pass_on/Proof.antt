@@ -1,27 +1,11 @@
 -- The packet is pushed, or nothing moves. Assumes nothing.
-use Prim.Native.Nat.{ℕ}
-use native.Mathlib.Omega.{arith}
-use mathlib.Core.Path.{_≡_}
-use mathlib.Core.Logic.{inl, inr}
-use mathlib.Core.List.{[], _∷_}
-use types.Run.{OneOf}
-use denote.Enum.Declared.{tagOf}
+use mathlib.Core.Path.{_∙_}
 use denote.Ref.{now}
-use Rattle.model.specs.declared.Went.{Went}
-use Rattle.model.specs.declared.Went.the-variants as went
-use Rattle.model.proofs.Went.{the-type}
 use Rattle.queues.specs.Queue.{flown}
-use Rattle.flight.proofs.Queuing.{passed-lane, passed-other, passed-nothing}
+use Rattle.flight.proofs.Leaving.{passed-lane, passed-none, passed-nothing}
 use borrow.Author.Needs.{needs}
 use Rattle.flight.proofs.queued.pass_on.Statement.{statement}
 use Rattle.flight.proofs.queued.pass_on.Tie as tie
-
--- the other arm's keys name no lane
-no-lane : (w : Went) → OneOf (1 ∷ 2 ∷ 3 ∷ 4 ∷ []) (tagOf the-type w) → (x : ℕ) → w ≡ went.Lane x → ⊥
-no-lane w keys x e = elim (rw e at keys) [
-  | inl z ↦ omega (arith, z)
-  | inr ks ↦ elim ks [ inl z ↦ omega (arith, z) | inr ks ↦ elim ks [ inl z ↦ omega (arith, z) | inr z ↦ omega (arith, z) ] ]
-]
 
 enum-known-handled : tie.Need-enum-known-handled
 enum-known-handled c = search needs
@@ -48,9 +32,10 @@ returns : tie.Need-returns
 returns c =
     let a = c .before .before .before .before .before .before .before .before .before .before .before .before .before .before .args in
     let e = c .push .ensures in (
-      passed-lane (now (a .local)) (flown (now (a .number)) (now (a .lane)) (now (a .bit)) (a .used)) (a .handled) (a .went) _ _
+      e .0
+          ∙ passed-lane (now (a .local)) (flown (now (a .number)) (now (a .lane)) (now (a .bit)) (a .used)) _ _ (a .handled) (a .went)
           (c .before .before .before .before .before .before .before .before .before .before .before .before .handled .given .1)
-          (c .before .before .before .before .before .before .before .before .before .went .given .1) _ (e .0),
+          (c .before .before .before .before .before .before .before .before .before .went .given .1),
       e .1,
       e .2,
     )
@@ -59,8 +44,8 @@ returns-2 : tie.Need-returns-2
 returns-2 c =
     let b = c .before .before .before .before in
     let a = b .args in (
-      passed-other (now (a .local)) (flown (now (a .number)) (now (a .lane)) (now (a .bit)) (a .used)) (a .handled) (a .went)
-          (no-lane (a .went) (c .match2 .keys2)),
+      passed-none (now (a .local)) (flown (now (a .number)) (now (a .lane)) (now (a .bit)) (a .used)) (a .handled) (a .went)
+          (c .match2 .keys2),
       b .pre .2,
       b .pre .3,
     )

@@ -13,8 +13,7 @@ use Rattle.model.specs.Outcome.{gives, leaves, onward}
 use Rattle.arrays.specs.declared.Tally.{Tally}
 use Rattle.arrays.proofs.Below.{used-in}
 use Rattle.steps.specs.Steps.{stateWith}
-use Rattle.steps.proofs.Tallies.{counted-is, done-stays, done-leaves}
-use Rattle.steps.proofs.OffLanes.{stays-long, leaves-long}
+use Rattle.steps.proofs.Tallies.{counted-is, done-stays, done-leaves, stays-long, leaves-long}
 use Rattle.steps.proofs.Deliveries.{lands-home, lands-back, lands-on}
 use borrow.Author.Needs.{needs}
 use Rattle.steps.proofs.deliver.land.Statement.{statement}
@@ -80,7 +79,7 @@ returns-2 c =
           done-leaves (now (a .node)) (now (a .live)) (now (a .out)) (now (a .local)) remote (now (a .mark)) (now (a .turns)) (a .nodes) (a .destination) (a .links) flight (c .done2 .ensures) (c .before .before .before .before .before .before .before .pre .2)
           ∙ ap (λ s. leaves s (a .y) (a .n)) (counted-is (now (a .node)) (now (a .live)) (now (a .out)) (now (a .local)) remote (now (a .mark)) (now (a .turns)) (a .nodes) (a .destination) (a .links) flight (a .tally) (a .tally .flying + 1) 0 0 0 0 (c .before .before .before .counted2 .ensures))
           ∙ lands-back (seen (c .before .before .before .before .before .before .before) remote flight (a .tally)) (a .y) (a .n) (at-node (c .before .before .before .before .before .before .before) remote flight (c .before .before .before .before .before .wide .ensures)) (c .before .before .before .before .if1 .left) (at-out (c .before .before .before .before .before .before .before) remote flight (c .before .if2 .taken)),
-      λ flight l. leaves-long (now (a .local)) flight (c .done2 .ensures) (ap (λ n. n + 1) l ∙ sym (ap (λ (t : Tally). t .flying) (c .before .before .before .counted2 .ensures))),
+      λ flight l. leaves-long (now (a .local)) flight (c .done2 .ensures) (ap (λ (t : Tally). t .flying) (c .before .before .before .counted2 .ensures) ∙ ap (λ n. n + 1) (sym l)),
       ap (λ r. r .answer) (c .done2 .ensures),
       c .before .before .before .before .before .before .before .pre .7,
     )
@@ -111,7 +110,7 @@ returns-3 c =
           ∙ c .before .onward .ensures .0 remote (a .destination) flight (c .before .before .before .before .before .before .before .before .counted2 .result) (a .n)
           ∙ ap (λ s. onward s v (a .n)) (counted-is (now (a .node)) (now (a .live)) (now (a .out)) (now (a .local)) remote (now (a .mark)) (now (a .turns)) (a .nodes) (a .destination) (a .links) flight (a .tally) (a .tally .flying + 1) 0 0 0 0 (c .before .before .before .before .before .before .before .before .counted2 .ensures))
           ∙ lands-on (seen (c .before .before .before .before .before .before .before .before .before .before .before .before) remote flight (a .tally)) (a .y) (a .n) (at-node (c .before .before .before .before .before .before .before .before .before .before .before .before) remote flight (c .before .before .before .before .before .before .before .before .before .before .wide .ensures)) (c .before .before .before .before .before .before .before .before .before .if1 .left) (at-out (c .before .before .before .before .before .before .before .before .before .before .before .before) remote flight (c .before .before .before .before .before .before .if2 .left)),
-      λ flight l. leaves-long _ flight (c .done3 .ensures) (ap (λ n. n + 1) l ∙ sym (ap (λ (t : Tally). t .flying) (c .before .before .before .before .before .before .before .before .counted2 .ensures))),
+      λ flight l. leaves-long _ flight (c .done3 .ensures) (ap (λ (t : Tally). t .flying) (c .before .before .before .before .before .before .before .before .counted2 .ensures) ∙ ap (λ n. n + 1) (sym l)),
       ap (λ r. r .answer) (c .done3 .ensures),
       c .before .onward .ensures .2,
     )
