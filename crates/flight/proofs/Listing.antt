@@ -1,4 +1,4 @@
--- What packets in a list tell an event, and what it leaves of them. Assumes nothing.
+-- What packets in a list tell an event, how many are on a link, and what an event leaves in the arrays. Assumes nothing.
 use Prim.Native.Nat.{ℕ, zero, suc, _+_, _≤_, _<_}
 use native.Mathlib.Omega.{arith}
 use native.Mathlib.Numerals.{add-one}
@@ -18,7 +18,6 @@ use Rattle.model.specs.State.{Packet, linkOf}
 use Rattle.model.specs.Lanes.{onLane, less}
 use Rattle.model.specs.Fail.{off}
 use Rattle.model.proofs.Below.{clash}
-use Rattle.arrays.specs.declared.Told.{Told}
 use Rattle.arrays.specs.View.{packetAt}
 use Rattle.arrays.specs.Flight.{Slots, packets}
 use Rattle.arrays.specs.Told.{tells, left, flies}

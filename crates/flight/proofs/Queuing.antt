@@ -10,7 +10,6 @@ use Rattle.model.specs.State.{Packet}
 use Rattle.model.specs.Lanes.{onLane}
 use Rattle.model.specs.Fail.{off}
 use Rattle.model.proofs.Below.{clash}
-use Rattle.arrays.specs.declared.Told.{Told}
 use Rattle.arrays.specs.Told.{tells}
 use Rattle.queues.specs.Queue.{room, flown, Queued}
 use Rattle.queues.proofs.Oldest.{queued-oldest}

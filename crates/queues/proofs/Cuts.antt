@@ -70,6 +70,7 @@ module _ (lane lanes : List ℕ) (used l : ℕ) (b : l < linksMost) (e : Emptied
   kept : (j : ℕ) → (getD lane j 0 / 2 ≡ l → ⊥) → getD lanes j 0 ≡ getD lane j 0
   kept j n = e .entry j ∙ rw (ne-eqb (getD lane j 0 / 2) l n, and-false (ltb j used))
 
+  -- the packets are those off the link
   pub flown-off : (number : List ℕ) (bit : List Bool) → flown number lanes bit used ≡ off l (flown number lane bit used)
   flown-off number bit =
       standing-off l b (packetAt number lane bit) (packetAt number lanes bit) used gone (λ j u n. rw (kept j n))
@@ -139,6 +140,7 @@ module _ (lane lanes : List ℕ) (used l : ℕ) (b : l < linksMost) (e : Emptied
       | inr z ↦ omega (arith, kept j z, q .named j u)
     ]
 
+    -- and the queues are in order
     pub queued-cut : Queued lanes firsts last after used
     queued-cut =
         record {

@@ -15,14 +15,14 @@ use Rattle.model.specs.Below.{tab}
 use Rattle.model.specs.State.{Packet}
 use Rattle.model.proofs.Below.{look, tab-at}
 use Rattle.arrays.specs.View.{packetAt}
-use Rattle.arrays.specs.Flight.{slots, Slots, packets}
-use Rattle.arrays.proofs.Below.{length-tab, tab-same}
+use Rattle.arrays.specs.Flight.{Slots, packets}
+use Rattle.arrays.proofs.Below.{length-tab}
 use Rattle.moves.proofs.Packets.{tab-snoc, put-at}
 use Rattle.queues.specs.Queue.{noLane, standing, flown, Roomy}
 use Rattle.queues.proofs.Standing.{standing-snoc}
 
 -- ---- those that stand
-pub standing-twice : (ps : List Packet) → standing (standing ps) ≡ standing ps
+standing-twice : (ps : List Packet) → standing (standing ps) ≡ standing ps
 unfolding standing
 standing-twice [] = refl
 standing-twice (p ∷ ps) = elim (look (eqb (p .lane) noLane)) [
@@ -30,6 +30,7 @@ standing-twice (p ∷ ps) = elim (look (eqb (p .lane) noLane)) [
   | inr e ↦ rw (e, e) (ap (λ l. p ∷ l) (standing-twice ps))
 ]
 
+-- where each packet is on a lane, all stand
 pub standing-all : (p : ℕ → Packet) (k : ℕ) → ((i : ℕ) → i < k → p i .lane < endsMost) → standing (tab p k) ≡ tab p k
 unfolding standing tab
 standing-all p zero h = refl
@@ -45,6 +46,7 @@ standing-most p (suc k) = elim (look (eqb (p 0 .lane) noLane)) [
   | inr e ↦ rw e (omega (arith, standing-most (λ i. p (suc i)) k))
 ]
 
+-- no more stand than slots are in use
 pub flown-most : (number lane : List ℕ) (bit : List Bool) (used : ℕ) → length (flown number lane bit used) ≤ used
 flown-most number lane bit used = standing-most (packetAt number lane bit) used
 
@@ -124,6 +126,7 @@ module _ (numbers lanes : List ℕ) (bits : List Bool) where
   next i = rw (add-one, tab-snoc (packetAt numbers lanes bits) i) (standing-snoc (packets numbers lanes bits i) (packetAt numbers lanes bits i))
 
   module _ (i w : ℕ) (number lane : List ℕ) (bit : List Bool) (g : Gathered i w number lane bit) where
+    -- so many are gathered as stand
     pub gathered-many : w ≡ length (flown numbers lanes bits i)
     gathered-many = sym (length-tab (packetAt number lane bit) w) ∙ ap length (g .gathered)
 
@@ -163,6 +166,7 @@ module _ (numbers lanes : List ℕ) (bits : List Bool) where
 
   -- ---- gathered and spread again
   module _ (number lane : List ℕ) (bit : List Bool) (used r : ℕ) (all : packets number lane bit r ≡ flown numbers lanes bits used) where
+    -- each of them is on a lane
     pub gathered-named : ((i : ℕ) → i < used → getD lanes i 0 ≤ noLane) → (i : ℕ) → i < r → getD lane i 0 < endsMost
     gathered-named h i l =
         let d : Packet = packetAt number lane bit 0 in
@@ -170,6 +174,7 @@ module _ (numbers lanes : List ℕ) (bits : List Bool) where
         let on : getD (packets number lane bit r) i d .lane ≡ getD lane i 0 = ap (λ p. p .lane) (tab-at d (packetAt number lane bit) r i l) in
         rw (← on, all) (standing-named (packetAt numbers lanes bits) used h d i (omega arith))
 
+    -- spread over the first slots, they are those that stood
     pub spread-again : (numbers′ lanes′ : List ℕ) (bits′ : List Bool) → packets numbers′ lanes′ bits′ r ≡ packets number lane bit r
         → flown numbers′ lanes′ bits′ r ≡ flown numbers lanes bits used
     spread-again numbers′ lanes′ bits′ e = ap standing (e ∙ all) ∙ standing-twice (packets numbers lanes bits used)

@@ -117,6 +117,7 @@ module _ (lane first last after : List ℕ) (k : ℕ) (q : Queued lane first las
         rw (e, getD-set-other after k j room 0 z)
         (next-other (getD lane j 0) (suc j) (getD after j 0) (empty-lane j v) (q .goes j v (rw e at m)))
 
+    -- the lane was empty: the slot is its first and its last
     pub queued-first : (f a : List ℕ) → f ≡ firsts → a ≡ afters → Queued lanes f lasts a (k + 1)
     queued-first f a f-is a-is =
         rw (f-is, a-is) (record {
@@ -183,6 +184,7 @@ module _ (lane first last after : List ℕ) (k : ℕ) (q : Queued lane first las
           | inr h ↦ next-other (getD lane j 0) (suc j) (getD after j 0) h (q .goes j v o)
         ])
 
+    -- it was not: the slot comes after its last
     pub queued-last : (s : ℕ) (f a : List ℕ) → s ≡ t → f ≡ first → a ≡ set (set after k room) s k → Queued lanes f lasts a (k + 1)
     queued-last s f a s-is f-is a-is =
         rw (f-is, a-is, s-is) (record {

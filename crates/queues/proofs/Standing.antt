@@ -15,7 +15,6 @@ use Rattle.model.specs.State.{Packet, linkOf}
 use Rattle.model.specs.Lanes.{onLane, less}
 use Rattle.model.specs.Fail.{off}
 use Rattle.model.proofs.Below.{look}
-use Rattle.arrays.specs.View.{packetAt}
 use Rattle.arrays.specs.Flight.{packets}
 use Rattle.arrays.proofs.Below.{tab-same}
 use Rattle.moves.proofs.Packets.{tab-snoc, put-at, off-snoc}

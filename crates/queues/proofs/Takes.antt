@@ -109,6 +109,7 @@ module _ (lane first last after : List ℕ) (used : ℕ) (q : Queued lane first 
   first-taken y r (inl z) = rw z (omega (arith, e))
   first-taken y r (inr z) = rw (getD-set-other first x y (getD after i 0) 0 z) at r
 
+  -- the queues are in order
   pub queued-taken : Queued lanes firsts last after used
   queued-taken =
       record {
@@ -126,6 +127,7 @@ module _ (lane first last after : List ℕ) (used : ℕ) (q : Queued lane first 
         after-long = q .after-long;
       }
 
+  -- and the packets are those without the oldest of the lane
   pub flown-taken : (number : List ℕ) (bit : List Bool) → flown number lanes bit used ≡ less x (flown number lane bit used)
   flown-taken number bit =
       lane-less x l (packetAt number lane bit) (packetAt number lanes bit) used i (begin .here b .1)

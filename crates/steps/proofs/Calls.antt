@@ -2,10 +2,10 @@
 use Prim.Native.Nat.{ℕ, _*_, _≤_, _<_}
 use native.Mathlib.Omega.{arith}
 use mathlib.Core.Path.{_≡_, refl, sym, ap, _∙_}
-use mathlib.Core.Logic.{_⊎_, inl, inr}
-use mathlib.Core.Bool.{Bool, true, false, not, cond}
+use mathlib.Core.Logic.{inl, inr}
+use mathlib.Core.Bool.{true, false}
 use mathlib.Core.Option.{Option, none, some}
-use lib.Dec.{leb, eqb}
+use lib.Dec.{leb}
 use borrow.Author.Tests.{le-leb, lt-leb, ne-eqb}
 use Rattle.model.specs.declared.Handled.{Handled}
 use Rattle.model.specs.declared.Went.{Went}
@@ -87,6 +87,7 @@ module _ (s : State) where
   call-unknown kind a h m n1 n2 n3 n4 =
       rw (ne-eqb kind 1 n1, ne-eqb kind 2 n2, ne-eqb kind 3 n3, ne-eqb kind 4 n4, h, lt-leb eventsMost (s .counts .events) m)
 
+  -- a kind that is none leaves the record as it was
   pub none-kept : accepting s (refuse s answers.noSuch) .state ≡ s
   unfolding accepting
   none-kept = elim (look (wellFormed s)) [
@@ -106,6 +107,7 @@ module _ (s : State) where
       at none h = ap wellFormed (none-kept) ∙ h
       at (some make) h = formed-kept .kept s (make a) h
 
+  -- a refused call leaves the record as it was
   pub call-refused : (kind a : ℕ) → (call s kind a .answer ≡ answers.done → ⊥) → call s kind a .state ≡ s
   unfolding call accepting
   call-refused kind a n = at (ofKind kind) n

@@ -22,6 +22,7 @@ use Rattle.arrays.specs.View.{used, endsOf, stateOf}
 use Rattle.arrays.proofs.Below.{used-in, used-is, used-out}
 use Rattle.steps.specs.Steps.{landed}
 
+-- news is a bit other than the remote one
 pub fresh-is : (p q : Bool) → (p && not q || not p && q) ≡ xor p q
 unfolding xor
 fresh-is true true = refl

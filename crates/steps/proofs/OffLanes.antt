@@ -6,10 +6,9 @@ use mathlib.Core.Bool.{Bool, true, false}
 use mathlib.Core.Logic.{inl, inr}
 use mathlib.Core.List.{List, [], _∷_}
 use lib.Dec.{leb}
-use lib.ListN.{length, getD, length-append}
+use lib.ListN.{length, getD}
 use borrow.Author.Tests.{le-leb, lt-leb, leb-true, leb-false, ne-eqb}
 use Rattle.model.specs.declared.Handled.the-variants as handled
-use Rattle.model.specs.declared.Went.{Went}
 use Rattle.model.specs.declared.Went.the-variants as went
 use Rattle.model.specs.Limits.{eventsMost}
 use Rattle.model.specs.Answers as answers
@@ -23,14 +22,14 @@ use Rattle.model.proofs.Lanes.{less-length}
 use Rattle.arrays.specs.declared.Tally.{Tally}
 use Rattle.arrays.specs.declared.Told.{Told}
 use Rattle.arrays.specs.View.{used, netOf, stateOf}
-use Rattle.arrays.specs.Told.{oldestIn, without, passedBy, passed}
+use Rattle.arrays.specs.Told.{oldestIn, without, passed}
 use Rattle.arrays.proofs.Below.{used-in}
 use Rattle.steps.specs.declared.tally.Step.{Step}
 use Rattle.steps.specs.Lanes.{refused}
 use Rattle.steps.specs.Steps.{stateWith, outcomeOf}
 
 module _ (s : State) (x : ℕ) (f : Packet → Outcome) (formed : wellFormed s ≡ true) (room : s .counts .events < eventsMost) where
-  pub off-no-such : lanes s ≤ x → refuse s answers.noSuch ≡ offLane s x f
+  off-no-such : lanes s ≤ x → refuse s answers.noSuch ≡ offLane s x f
   unfolding offLane accepting
   off-no-such h = rw (formed, lt-leb eventsMost (s .counts .events) room, le-leb (lanes s) x h)
 
@@ -49,10 +48,12 @@ module _ (s : State) (x : ℕ) (f : Packet → Outcome) (formed : wellFormed s �
       off-oldest e = rw (formed, lt-leb eventsMost (s .counts .events) room, lt-leb (lanes s) x inside, live-whole s x up, e)
 
 -- ---- what the packets of a lane tell
+-- told of none, there is none
 pub told-none : (ps : List Packet) {t : Told} → t ≡ oldestIn ps → t .there ≡ false → ps ≡ []
 told-none [] e h = refl
 told-none (p ∷ ps) e h = absurd (clash (ap (λ (t : Told). t .there) e) h)
 
+-- what is told is true of the oldest
 pub record Oldest (ps : List Packet) (t : Told) : Type 0 where
   pub packet : Packet
   pub rest : List Packet
@@ -67,6 +68,7 @@ told-oldest (p ∷ ps) e h =
 
 -- ---- the refusals
 module _ (live : List Bool) (links x : ℕ) (there : Bool) where
+  -- the lane is there, its link is live, and it has a packet
   pub record There : Type 0 where
     pub inside : x < 2 * links
     pub up : getD live (x / 2) false ≡ true
@@ -90,6 +92,7 @@ module _ (live : List Bool) (links x : ℕ) (there : Bool) where
       unfolding refused
       refused-not e = rw (lt-leb (2 * links) x inside, up, e)
 
+  -- so it is where nothing is refused
   pub is-there : {answer : ℕ} → answer ≡ refused live links x there → answer ≡ answers.done → There
   is-there e z = elim (look (leb (2 * links) x)) [
     | inl h ↦ absurd (omega (arith, z, e ∙ refused-none (leb-true (2 * links) x h)))
@@ -110,6 +113,7 @@ module _ (live : List Bool) (links x : ℕ) (told : Told) (node : List ℕ) (end
     is-live : (b : Bool) → x < 2 * links → getD live (x / 2) false ≡ b → used links false live (x / 2) ≡ b
     is-live b h u = used-in links false live (x / 2) (omega arith) ∙ u
 
+    -- refused for the reason that the search gave
     pub off-refused : {answer : ℕ} → answer ≡ refused live links x (told .there) → (answer ≡ answers.done → ⊥) → refuse shown answer ≡ offLane shown x f
     off-refused e z = elim (look (leb (2 * links) x)) [
       | inl h ↦
@@ -128,6 +132,7 @@ module _ (live : List Bool) (links x : ℕ) (told : Told) (node : List ℕ) (end
       ]
     ]
 
+    -- not refused, the oldest packet goes on
     pub off-found : There live links x (told .there) → {p : Packet} {ps : List Packet} → onLane x flight ≡ p ∷ ps → f p ≡ offLane shown x f
     off-found h e = off-oldest shown x f formed room (h .inside) (is-live true (h .inside) (h .up)) e
 
@@ -139,7 +144,7 @@ took-is net live ends turns flight counts x = refl
 
 -- ---- what an answer takes from the packets
 module _ (x : ℕ) (flight : List Packet) {answer : ℕ} where
-  pub without-oldest : answer ≡ answers.done → without answer x flight ≡ less x flight
+  without-oldest : answer ≡ answers.done → without answer x flight ≡ less x flight
   without-oldest h = rw h
 
 module _ (node : List ℕ) (live out local remote mark : List Bool) (turns : List ℕ) (nodes destination links : ℕ) (flight : List Packet) (x : ℕ) {r : Step} {t : Tally} where

@@ -1,14 +1,13 @@
 -- The ways through a send. Assumes nothing.
 use Prim.Native.Nat.{ℕ, _≤_, _<_}
-use mathlib.Core.Path.{_≡_, refl}
-use mathlib.Core.Bool.{Bool, true, false, _&&_}
-use lib.Dec.{eqb}
+use mathlib.Core.Path.{_≡_}
+use mathlib.Core.Bool.{true, false}
 use lib.ListN.{length}
 use borrow.Author.Tests.{le-leb, lt-leb, eq-eqb, ne-eqb}
 use Rattle.model.specs.declared.Went.the-variants as went
 use Rattle.model.specs.Limits.{flightMost, eventsMost}
 use Rattle.model.specs.Answers as answers
-use Rattle.model.specs.State.{State, lanes, live}
+use Rattle.model.specs.State.{State, lanes}
 use Rattle.model.specs.Formed.{wellFormed}
 use Rattle.model.specs.Departure.{liveAt, outAt, hasLive, hasOut}
 use Rattle.model.specs.Outcome.{refuse, accepting, counted, gives, onward}

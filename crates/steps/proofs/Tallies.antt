@@ -1,7 +1,6 @@
 -- What a step's answer and counts make of a state. Assumes nothing.
 use Prim.Native.Nat.{ℕ, _+_, _*_, _<_}
-use native.Mathlib.Omega.{arith}
-use mathlib.Core.Path.{_≡_, refl, sym, ap, _∙_}
+use mathlib.Core.Path.{_≡_, sym, _∙_}
 use mathlib.Core.Bool.{Bool, false}
 use mathlib.Core.List.{List}
 use lib.ListN.{length, length-append}
@@ -11,9 +10,8 @@ use Rattle.model.specs.declared.Went.{Went}
 use Rattle.model.specs.declared.Went.the-variants as went
 use Rattle.model.specs.State.{Packet}
 use Rattle.model.specs.Departure.{pass}
-use Rattle.model.specs.Outcome.{Outcome, counted, gives, leaves}
+use Rattle.model.specs.Outcome.{counted, gives, leaves}
 use Rattle.arrays.specs.declared.Tally.{Tally}
-use Rattle.arrays.specs.View.{used}
 use Rattle.arrays.specs.Told.{passedBy, passed}
 use Rattle.arrays.proofs.Below.{used-in}
 use Rattle.steps.specs.declared.tally.Step.{Step}

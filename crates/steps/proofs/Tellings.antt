@@ -18,7 +18,7 @@ use Rattle.model.specs.Fail.{off}
 use Rattle.model.proofs.Below.{look, clash}
 use Rattle.model.proofs.Lanes.{less-length, off-length}
 use Rattle.arrays.specs.declared.Told.{Told}
-use Rattle.arrays.specs.Told.{oldestIn, onLink, tells, without, cleared, passed, flies}
+use Rattle.arrays.specs.Told.{oldestIn, tells, without, cleared, passed, flies}
 
 module _ (flight : List Packet) (a : ℕ) {told : Told} where
   pub told-deliver : {kind : ℕ} → kind ≡ 2 → told ≡ tells flight kind a → told ≡ oldestIn (onLane a flight)
@@ -47,14 +47,20 @@ module _ (flight : List Packet) (kind a : ℕ) where
   unfolding tells
   tells-there e = elim (look (eqb kind 4)) [
     | inl k ↦ absurd (clash (rw k at e) refl)
-    | inr k ↦ none-there a flight (onLane a flight) refl (rw k at e)
+    | inr k ↦ elim (look (eqb kind 1)) [
+      | inl z ↦ absurd (clash (rw (k, z) at e) refl)
+      | inr z ↦ none-there a flight (onLane a flight) refl (rw (k, z) at e)
+    ]
   ]
 
   pub tells-gone : tells flight kind a .gone ≤ length flight
   unfolding tells
   tells-gone = elim (look (eqb kind 4)) [
     | inl k ↦ rw k (omega arith)
-    | inr k ↦ rw k (omega (arith, none-gone (onLane a flight)))
+    | inr k ↦ elim (look (eqb kind 1)) [
+      | inl z ↦ rw (k, z) (omega arith)
+      | inr z ↦ rw (k, z) (omega (arith, none-gone (onLane a flight)))
+    ]
   ]
 
 module _ (a : ℕ) (local : List Bool) (flight : List Packet) (answer : ℕ) where

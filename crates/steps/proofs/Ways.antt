@@ -1,29 +1,27 @@
 -- A turn, a way out and a departure, from what the arrays show. Assumes nothing.
-use Prim.Native.Nat.{ℕ, zero, suc, _+_, _*_, _≤_, _<_}
+use Prim.Native.Nat.{ℕ, suc, _+_, _*_, _≤_, _<_}
 use native.Mathlib.Omega.{arith}
 use native.Mathlib.Numerals.{add-one}
-use mathlib.Core.Path.{_≡_, refl, sym, ap, _∙_}
+use mathlib.Core.Path.{_≡_, refl, ap, _∙_}
 use mathlib.Core.Logic.{_⊎_, inl, inr}
 use mathlib.Core.Bool.{Bool, true, false, cond}
-use mathlib.Core.List.{List, [], _∷_, _++_}
+use mathlib.Core.List.{List, []}
 use lib.Dec.{ltb, eqb}
 use lib.ListN.{length, getD, set, length-set}
 use lib.Seq.{getD-set-same, getD-set-other}
-use borrow.Author.Tests.{ltb-true, ltb-false, lt-ltb, le-ltb, eqb-true, eqb-false, ne-eqb}
-use Rattle.model.specs.declared.Went.the-variants as went
-use Rattle.model.specs.Limits.{nodesMost, linksMost}
-use Rattle.model.specs.Below.{any, first}
-use Rattle.model.specs.State.{State, Packet, Net, Ends, Counts, lanes, live}
-use Rattle.model.specs.Departure.{outAt, outLink, outEnd, hasLive, hasOut, hasMark, turn, update, door, pass}
-use Rattle.model.specs.Outcome.{gives, leaves, leavesBy, onward}
+use borrow.Author.Tests.{eqb-true, eqb-false, ne-eqb}
+use Rattle.model.specs.Below.{first}
+use Rattle.model.specs.State.{State, Packet, lanes, live}
+use Rattle.model.specs.Departure.{outAt, outLink, outEnd, hasLive, hasOut, hasMark, turn, update, door}
+use Rattle.model.specs.Outcome.{leaves, leavesBy, onward}
 use Rattle.model.proofs.Departure.{update-out}
-use Rattle.model.proofs.Below.{look, clash, any-here, any-found, any-false, first-found}
+use Rattle.model.proofs.Below.{look, any-here, any-found, first-found}
 use Rattle.arrays.specs.declared.Tally.{Tally}
-use Rattle.arrays.specs.View.{used, netOf, endsOf, countsOf, stateOf, endsSeen}
+use Rattle.arrays.specs.View.{used, netOf, countsOf, endsSeen}
 use Rattle.moves.specs.Turned.{Turned}
 use Rattle.arrays.proofs.Below.{used-in, used-is, used-out}
 use Rattle.steps.specs.Steps.{stateWith}
-use Rattle.moves.proofs.Searches.{first-most, first-by-links}
+use Rattle.moves.proofs.Searches.{first-by-links}
 use Rattle.moves.proofs.Chains.{first-hit}
 
 -- ---- a node has a way out exactly if the search finds one
@@ -48,7 +46,7 @@ module _ (s : State) (v : ℕ) where
       ≡ cond (ltb (first (outLink s v) 0 (s .net .links)) (0 + s .net .links)) (outEnd s v (first (outLink s v) 0 (s .net .links))) (2 * (0 + s .net .links))
   by-links = first-by-links (outAt s v) (s .net .links) 0
 
-  pub way-door : found < lanes s → found ≡ door s v
+  way-door : found < lanes s → found ≡ door s v
   unfolding door
   way-door h = elim (look (ltb (first (outLink s v) 0 (s .net .links)) (0 + s .net .links))) [
     | inl e ↦ by-links ∙ rw e
@@ -63,6 +61,7 @@ leaves-by {s} v x n e o q = ap (λ y. leaves s y n) (q ∙ way-door s v (way-in 
 pub turns-kept : (turns turns′ : List ℕ) (v t n : ℕ) → turns′ ≡ set turns v t → length turns ≡ n → length turns′ ≡ n
 turns-kept turns turns′ v t n e h = ap length e ∙ length-set turns v t ∙ h
 
+-- what the arrays show after a turn is the turn
 pub turn-is : (node : List ℕ) (live out local remote mark : List Bool) (turns : List ℕ) (nodes destination links : ℕ) (flight : List Packet) (t : Tally) (v : ℕ)
     {out′ local′ mark′ : List Bool} {turns′ : List ℕ} → Turned (endsSeen links node live out local mark) v out′ local′ mark′
     → turns′ ≡ set turns v (getD turns v 0 + 1) → v < nodes → nodes ≤ length turns
@@ -112,10 +111,12 @@ onward-by s v x n e h =
     let o : hasOut s v ≡ true = has-way s v (rw e at h) in
     rw o (leaves-by {s = s} {t = s} v x n refl o e)
 
+-- where there is no way out, by a turn
 pub onward-turned : (s : State) (v n : ℕ) → hasOut s v ≡ false → leavesBy (turn s v) v n ≡ onward s v n
 unfolding onward update
 onward-turned s v n e = rw e
 
+-- a turn of a node with a live end makes a way out
 pub turn-finds : (s : State) (v : ℕ) → ((x : ℕ) → x < lanes s → s .ends .mark x ≡ true → live s x ≡ true) → hasLive s v ≡ true → hasOut s v ≡ false
     → hasOut (turn s v) v ≡ true
 unfolding update

@@ -1,8 +1,8 @@
 -- By the kind, after the two refusals that need none. Assumes nothing.
-use Prim.Native.Nat.{ℕ, _+_, _-_, _*_, _≤_, _<_}
+use Prim.Native.Nat.{ℕ}
 use native.Mathlib.Omega.{arith}
-use mathlib.Core.Path.{_≡_, refl, sym, ap, _∙_}
-use mathlib.Core.Bool.{Bool, true, false}
+use mathlib.Core.Path.{_≡_, sym, ap, _∙_}
+use mathlib.Core.Bool.{Bool}
 use mathlib.Core.List.{List}
 use lib.ListN.{length}
 use denote.Ref.{now}
@@ -12,7 +12,6 @@ use Rattle.model.specs.declared.Handled.the-variants as handled
 use Rattle.model.specs.declared.Went.the-variants as went
 use Rattle.model.specs.State.{Packet, State}
 use Rattle.model.specs.Outcome.{Outcome}
-use Rattle.arrays.specs.declared.Tally.{Tally}
 use Rattle.arrays.specs.Told.{flies}
 use Rattle.steps.specs.declared.tally.Step.{Step}
 use Rattle.steps.specs.Call.{call}

@@ -1,4 +1,4 @@
--- A sending leaves all, a failure cuts its link's queues, a delivery or loss takes the first slot of its lane. Assumes nothing.
+-- A send leaves all, a failure cuts its link's queues, a delivery or loss takes the first slot of its lane. Assumes nothing.
 use native.Mathlib.Omega.{arith}
 use mathlib.Core.Path.{sym, _∙_}
 use denote.Ref.{now}

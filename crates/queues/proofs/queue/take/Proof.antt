@@ -1,4 +1,4 @@
--- Two stores. Assumes nothing.
+-- The next slot of the lane becomes its first, and the slot empty. Assumes nothing.
 use mathlib.Core.Path.{_∙_}
 use denote.Ref.{now}
 use lib.ListN.{length-set}

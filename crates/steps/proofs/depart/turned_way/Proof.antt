@@ -1,16 +1,10 @@
 -- The turn, then the way out. Assumes nothing.
-use Prim.Native.Nat.{ℕ, _+_, _-_, _*_, _≤_, _<_}
+use Prim.Native.Nat.{_≤_}
 use native.Mathlib.Omega.{arith}
-use mathlib.Core.Path.{_≡_, refl, sym, ap, _∙_}
-use mathlib.Core.Bool.{true}
-use mathlib.Core.List.{[]}
 use lib.ListN.{length}
 use denote.Ref.{now}
 use Rattle.model.specs.Departure.{hasOut, turn}
-use Rattle.arrays.specs.View.{endsSeen}
-use Rattle.steps.specs.Steps.{stateWith}
 use Rattle.steps.proofs.Ways.{turn-is, turned-below, turned-out, turns-kept, leaves-by}
-use borrow.Author.Needs.{needs}
 use Rattle.steps.proofs.depart.turned_way.Statement.{statement}
 use Rattle.steps.proofs.depart.turned_way.Tie as tie
 

@@ -1,8 +1,8 @@
 -- The refusals, then the cut. Assumes nothing.
-use Prim.Native.Nat.{ℕ, _+_, _-_, _*_, _/_, _≤_, _<_}
+use Prim.Native.Nat.{ℕ, _+_, _-_, _*_}
 use native.Mathlib.Omega.{arith}
-use mathlib.Core.Path.{_≡_, refl, sym, ap, _∙_}
-use mathlib.Core.Bool.{Bool, true, false}
+use mathlib.Core.Path.{_≡_, refl, ap, _∙_}
+use mathlib.Core.Bool.{Bool, false}
 use mathlib.Core.List.{List}
 use lib.ListN.{length, set, length-set}
 use denote.Ref.{now}
@@ -11,7 +11,7 @@ use borrow.Author.Tests.{not-true, not-false}
 use Rattle.model.specs.declared.Went.the-variants as went
 use Rattle.model.specs.declared.Handled.the-variants as handled
 use Rattle.model.specs.State.{State, Packet}
-use Rattle.model.specs.Outcome.{Outcome, counted}
+use Rattle.model.specs.Outcome.{counted}
 use Rattle.model.specs.Fail.{off}
 use Rattle.model.proofs.Lanes.{off-length}
 use Rattle.arrays.specs.declared.Tally.{Tally}

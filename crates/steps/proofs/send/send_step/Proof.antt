@@ -1,16 +1,16 @@
 -- One way through after the other. Assumes nothing.
-use Prim.Native.Nat.{ℕ, _+_, _-_, _*_, _/_, _≤_, _<_}
+use Prim.Native.Nat.{ℕ, _+_, _*_, _/_, _≤_}
 use native.Mathlib.Omega.{arith}
 use mathlib.Core.Path.{_≡_, refl, sym, ap, _∙_}
-use mathlib.Core.Bool.{Bool, true, false}
+use mathlib.Core.Bool.{Bool, false}
 use mathlib.Core.List.{List}
 use denote.Ref.{now}
 use borrow.Author.Needs.{needs}
 use borrow.Author.Tests.{not-true, not-false}
 use Rattle.model.specs.declared.Went.the-variants as went
 use Rattle.model.specs.State.{Packet, State}
-use Rattle.model.specs.Departure.{hasLive, hasOut, hasMark, turn}
-use Rattle.model.specs.Outcome.{counted, gives, leaves, onward}
+use Rattle.model.specs.Departure.{hasLive, hasOut}
+use Rattle.model.specs.Outcome.{counted, gives, onward}
 use Rattle.arrays.specs.declared.Tally.{Tally}
 use Rattle.arrays.specs.View.{endsSeen}
 use Rattle.arrays.proofs.Below.{used-in}
