@@ -45,21 +45,21 @@ none-gone (p ∷ ps) = refl
 module _ (flight : List Packet) (kind a : ℕ) where
   pub tells-there : tells flight kind a .there ≡ true → 0 < length flight
   unfolding tells
-  tells-there e = elim (look (eqb kind 4)) [
-    | inl k ↦ absurd (clash (rw k at e) refl)
-    | inr k ↦ elim (look (eqb kind 1)) [
-      | inl z ↦ absurd (clash (rw (k, z) at e) refl)
-      | inr z ↦ none-there a flight (onLane a flight) refl (rw (k, z) at e)
+  tells-there e = elim (look (eqb kind 1)) [
+    | inl z ↦ absurd (clash (rw z at e) refl)
+    | inr z ↦ elim (look (eqb kind 4)) [
+      | inl k ↦ absurd (clash (rw (z, k) at e) refl)
+      | inr k ↦ none-there a flight (onLane a flight) refl (rw (z, k) at e)
     ]
   ]
 
   pub tells-gone : tells flight kind a .gone ≤ length flight
   unfolding tells
-  tells-gone = elim (look (eqb kind 4)) [
-    | inl k ↦ rw k (omega arith)
-    | inr k ↦ elim (look (eqb kind 1)) [
-      | inl z ↦ rw (k, z) (omega arith)
-      | inr z ↦ rw (k, z) (omega (arith, none-gone (onLane a flight)))
+  tells-gone = elim (look (eqb kind 1)) [
+    | inl z ↦ rw z (omega arith)
+    | inr z ↦ elim (look (eqb kind 4)) [
+      | inl k ↦ rw (z, k) (omega arith)
+      | inr k ↦ rw (z, k) (omega (arith, none-gone (onLane a flight)))
     ]
   ]
 
