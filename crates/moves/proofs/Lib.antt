@@ -1,7 +1,6 @@
 pub mod Searches
 pub mod Ends
 pub mod Chains
-pub mod Patches
 pub mod Turns
 pub mod Flights
 pub mod Packets
