@@ -29,7 +29,7 @@ size_t fiddleroost_text_most(void);
  * - `out` is not null and points to FIDDLEROOST_TEXT_MOST bytes that can be read and written, all of them set to some
  *   value.
  * - The two do not overlap, and nothing else changes the one or uses the other until the call returns.
- * - The calling thread has about 64 kilobytes of stack left.
+ * - The calling thread has 128 kilobytes of stack left.
  *
  * What the caller gets, for every file, also a spoilt or an oversize one:
  * - The call returns, and what it returns is at least 1 and at most FIDDLEROOST_TEXT_MOST.

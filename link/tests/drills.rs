@@ -51,3 +51,16 @@ fn bytes_after_the_text_stay() {
     assert_eq!(&out[..length], D1_TEXT);
     assert_eq!(&out[length..], &before[length..]);
 }
+
+/// The stack that the header asks for is enough: a thread that has no more ends.
+#[test]
+fn stack_of_the_header() {
+    let thread = std::thread::Builder::new().stack_size(128 * 1024);
+    let mut out = vec![0u8; TEXT_MOST].into_boxed_slice();
+    let length = thread
+        .spawn(move || text_into(D1, (&mut out[..]).try_into().expect("so many bytes")))
+        .expect("a thread")
+        .join()
+        .expect("a text");
+    assert_eq!(length, D1_TEXT.len());
+}
