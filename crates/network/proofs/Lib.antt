@@ -6,5 +6,6 @@ pub mod OneOutcome
 pub mod Bursts
 pub mod Going
 pub mod Runs
+pub mod Stated
 pub mod InFlight
 pub mod Refusals

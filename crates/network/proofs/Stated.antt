@@ -1,0 +1,62 @@
+-- A call of the code, by the contract as the source states it (`Reads.Post`), makes a run longer by its event. Assumes nothing.
+use mathlib.Core.Path.{_≡_}
+use mathlib.Core.List.{List, [], _∷_, _++_}
+use Prim.Native.Nat.{ℕ}
+use contract.Lifetimes.{Lfts}
+use denote.Triple.Clauses.{AtExit}
+use denote.Ref.{now}
+use borrow.Fn.Kinds.{Dens, endedOf}
+use Rattle.model.specs.Answers as answers
+use Rattle.model.specs.Events.{Event}
+use Rattle.model.specs.Events as events
+use Rattle.model.specs.File.{ofKind}
+use Rattle.network.specs.declared.opening.Opened.{Opened}
+use Rattle.network.specs.declared.record.Moved.{Moved}
+use Rattle.network.specs.declared.record.Burst.{Burst}
+use Rattle.network.specs.Runs.{eventIf, eventsIn, Run, opened, sent, delivered, lost, failed, applied}
+use Rattle.network.specs.Runs as runs
+use Rattle.network.proofs.record.Network.apply.Kinds as apply-kinds
+use Rattle.network.proofs.record.Network.apply.Reads as apply
+use Rattle.network.proofs.record.Network.send.Kinds as send-kinds
+use Rattle.network.proofs.record.Network.send.Reads as send
+use Rattle.network.proofs.record.Network.deliver.Kinds as deliver-kinds
+use Rattle.network.proofs.record.Network.deliver.Reads as deliver
+use Rattle.network.proofs.record.Network.lose.Kinds as lose-kinds
+use Rattle.network.proofs.record.Network.lose.Reads as lose
+use Rattle.network.proofs.record.Network.fail.Kinds as fail-kinds
+use Rattle.network.proofs.record.Network.fail.Reads as fail
+use Rattle.network.proofs.record.Network.burst.Kinds as burst-kinds
+use Rattle.network.proofs.record.Network.burst.Reads as burst
+use Rattle.network.proofs.open.Kinds as opening-kinds
+use Rattle.network.proofs.open.Reads as opening
+
+pub open-runs : (κs : Lfts 1) (a : Dens κs opening-kinds.ps) (r : Opened) (x : AtExit (endedOf 1 opening-kinds.ps opening-kinds.r) κs)
+    → opening.Post κs a r x → r .answer ≡ answers.done → Run (r .network) []
+open-runs κs a r x p done = opened (a .0) (a .1 .0) (now (a .1 .1 .0)) r p done
+
+pub send-runs : (κs : Lfts 0) (a : Dens κs send-kinds.ps) (r : Moved) (x : AtExit (endedOf 0 send-kinds.ps send-kinds.r) κs)
+    → send.Post κs a r x → (es : List Event) → Run (a .0) es → Run (r .network) (es ++ (events.send (a .1 .0) ∷ []))
+send-runs κs a r x p es h = sent (a .0) es h (a .1 .0) r p
+
+pub deliver-runs : (κs : Lfts 0) (a : Dens κs deliver-kinds.ps) (r : Moved) (x : AtExit (endedOf 0 deliver-kinds.ps deliver-kinds.r) κs)
+    → deliver.Post κs a r x → (es : List Event) → Run (a .0) es → Run (r .network) (es ++ (events.deliver (a .1 .0) ∷ []))
+deliver-runs κs a r x p es h = delivered (a .0) es h (a .1 .0) r p
+
+pub lose-runs : (κs : Lfts 0) (a : Dens κs lose-kinds.ps) (r : Moved) (x : AtExit (endedOf 0 lose-kinds.ps lose-kinds.r) κs)
+    → lose.Post κs a r x → (es : List Event) → Run (a .0) es → Run (r .network) (es ++ (events.lose (a .1 .0) ∷ []))
+lose-runs κs a r x p es h = lost (a .0) es h (a .1 .0) r p
+
+pub fail-runs : (κs : Lfts 0) (a : Dens κs fail-kinds.ps) (r : Moved) (x : AtExit (endedOf 0 fail-kinds.ps fail-kinds.r) κs)
+    → fail.Post κs a r x → (es : List Event) → Run (a .0) es → Run (r .network) (es ++ (events.fail (a .1 .0) ∷ []))
+fail-runs κs a r x p es h = failed (a .0) es h (a .1 .0) r p
+
+pub apply-runs : (κs : Lfts 0) (a : Dens κs apply-kinds.ps) (r : Moved) (x : AtExit (endedOf 0 apply-kinds.ps apply-kinds.r) κs)
+    → apply.Post κs a r x → (es : List Event) → Run (a .0) es → Run (r .network) (es ++ eventIf (ofKind (a .1 .0)) (a .1 .1 .0))
+apply-runs κs a r x p es h = applied (a .0) es h (a .1 .0) (a .1 .1 .0) r p
+
+pub burst-runs : (κs : Lfts 4) (a : Dens κs burst-kinds.ps) (r : Burst) (x : AtExit (endedOf 4 burst-kinds.ps burst-kinds.r) κs)
+    → burst.Post κs a r x → (es : List Event) → Run (a .0) es
+    → Run (r .network) (es ++ eventsIn (now (a .1 .0)) (now (a .1 .1 .0)) (r .count))
+burst-runs κs a r x p es h =
+    runs.burst (a .0) es h (now (a .1 .0)) (now (a .1 .1 .0)) (now (a .1 .1 .1 .0)) (now (a .1 .1 .1 .1 .0)) (now (a .1 .1 .1 .1 .1 .0))
+    (now (x .1 .1 .1 .0)) (now (x .1 .1 .1 .1 .0)) (now (x .1 .1 .1 .1 .1 .0)) r p
