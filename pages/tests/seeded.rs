@@ -87,11 +87,11 @@ fn a_wrong_name_is_told_with_its_line() {
 
 #[test]
 fn an_edit_in_no_row_is_told() {
-    let page = page().replace("`network/odd_list_taken`", "");
+    let page = page().replace("`network/ring_missed`", "");
     let faults = promises::faults(&tree(), &page);
     assert!(faults
         .iter()
-        .any(|fault| fault.ends_with("the edit `network/odd_list_taken` is in no row")));
+        .any(|fault| fault.ends_with("the edit `network/ring_missed` is in no row")));
 }
 
 #[test]
