@@ -25,6 +25,17 @@ seen (got.Event k a n) = record { answer = answers.done; place = 0; event = some
 seen (got.End n) = record { answer = answers.done; place = 0; event = none; next = n .at }
 seen (got.Spoilt p n) = record { answer = answers.spoilt; place = p; event = none; next = n .at }
 
+-- its kind and its argument alone, by their places
+abbrev pub kindIn : Got → ℕ
+kindIn (got.Event k a n) = k
+kindIn (got.End n) = 0
+kindIn (got.Spoilt p n) = 0
+
+abbrev pub argumentIn : Got → ℕ
+argumentIn (got.Event k a n) = a
+argumentIn (got.End n) = 0
+argumentIn (got.Spoilt p n) = 0
+
 -- the same of what `model` reads: the position after a spoilt event is the place of its kind
 abbrev pub seenAt : ℕ → Read (Option Event) → Seen
 seenAt at (had none n) = record { answer = answers.done; place = 0; event = none; next = n }

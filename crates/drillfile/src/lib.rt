@@ -2,6 +2,7 @@
 mod answers;
 mod bits;
 mod header;
+mod names;
 pub mod reader;
 mod reading;
 mod writing;
