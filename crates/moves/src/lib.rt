@@ -1,5 +1,5 @@
 // What an event does to the arrays of a record that was checked: ways out, turns, packets in flight.
-// Public for `steps` and `network` alone, so these functions may require what the check has told: docs/EXCEPTIONS.md.
+// Public for the crates up to `network` alone, so these functions may require what the check has told: docs/EXCEPTIONS.md.
 mod arrows;
 mod chain;
 mod list;

@@ -1,5 +1,5 @@
 // The packets in flight of a burst: queues by lane, in slots that no other packet moves into.
-// Public for `network` alone, so these functions may require what the check has told: docs/EXCEPTIONS.md.
+// Public for `flight` and `network` alone, so these functions may require what the check has told: docs/EXCEPTIONS.md.
 mod queue;
 mod slots;
 
