@@ -1,11 +1,7 @@
 pub mod Seen
-pub mod ClosedWalks
 pub mod Filled
 pub mod Openings
 pub mod OneOutcome
-pub mod Bursts
-pub mod Going
 pub mod Runs
 pub mod Stated
 pub mod InFlight
-pub mod Refusals

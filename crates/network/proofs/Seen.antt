@@ -1,22 +1,35 @@
--- The check of a record's arrays, said of the record. Assumes nothing.
-use mathlib.Core.Path.{_≡_, ap, _∙_}
+-- What a reader sees of a record is what its arrays and counts show. Assumes nothing.
+use mathlib.Core.Path.{_≡_, ap}
 use mathlib.Core.Bool.{Bool}
 use Rattle.model.specs.Formed.{wellFormed}
 use Rattle.arrays.specs.declared.Tally.{Tally}
 use Rattle.arrays.specs.Flight.{packets}
+use Rattle.arrays.proofs.WellFormed.{shown}
 use Rattle.steps.specs.Steps.{stateWith}
+use Rattle.lent.specs.Lent.{Arrays}
+use Rattle.lent.proofs.InPlace.{of-check}
 use Rattle.network.specs.declared.record.Network.{Network}
 use Rattle.network.specs.View.{tallyOf, view}
-use Rattle.arrays.proofs.WellFormed.{shown, bits-unread}
+
+abbrev pub arraysOf : Network → Arrays
+arraysOf n =
+    record {
+      live = n .live;
+      out = n .out;
+      local = n .local;
+      remote = n .remote;
+      mark = n .mark;
+      turns = n .turns;
+      number = n .number;
+      lane = n .lane;
+      bit = n .bit;
+    }
 
 -- what the check finds of a record's arrays, said of what a reader sees
 pub of-view : (n : Network) {r : Bool}
     → r ≡ wellFormed (shown (n .node) (n .live) (n .out) (n .mark) (n .turns) (n .number) (n .lane) (n .nodes) (n .destination) (n .links) (tallyOf n))
     → r ≡ wellFormed (view n)
-of-view n e =
-    e
-    ∙ bits-unread (n .node) (n .live) (n .out) (n .mark) (n .local) (n .remote) (n .bit) (n .turns) (n .number) (n .lane) (n .nodes) (n .destination)
-    (n .links) (tallyOf n)
+of-view n e = of-check (n .node) (n .nodes) (n .destination) (n .links) (arraysOf n) (tallyOf n) e
 
 -- the arrays, the packets and the counts of a record are what a reader sees of it
 pub seen-by : (n : Network) {t : Tally} → t ≡ tallyOf n

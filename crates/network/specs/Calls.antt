@@ -1,34 +1,16 @@
--- An event by its kind and argument, one after the other.
-use Prim.Native.Nat.{ℕ, zero, suc, _+_}
-use mathlib.Core.Bool.{false, cond}
-use mathlib.Core.List.{List, _++_}
+-- The contracts of a call and of a burst.
+use Prim.Native.Nat.{ℕ}
+use mathlib.Core.Bool.{false}
+use mathlib.Core.List.{List}
 use mathlib.Core.Path.{_≡_}
-use lib.Dec.{ltb}
-use lib.ListN.{length, getD, drop}
-use Rattle.model.specs.declared.Handled.{Handled}
-use Rattle.model.specs.declared.Handled.the-variants as handled
-use Rattle.model.specs.declared.Went.{Went}
-use Rattle.model.specs.declared.Went.the-variants as went
-use Rattle.model.specs.Limits.{endsMost, eventsMost}
 use Rattle.model.specs.Answers as answers
-use Rattle.model.specs.Below.{tab}
-use Rattle.model.specs.State.{State}
 use Rattle.model.specs.Formed.{wellFormed}
 use Rattle.model.specs.Outcome.{Outcome}
+use Rattle.bursts.specs.Bursts.{calls, Lists, shortest}
 use Rattle.network.specs.declared.record.Network.{Network}
 use Rattle.network.specs.declared.record.Moved.{Moved}
 use Rattle.network.specs.declared.record.Burst.{Burst}
-use Rattle.steps.specs.Call.{call}
 use Rattle.network.specs.View.{view}
-
--- the state after the first k calls of two lists
-unfoldable pub calls : State → List ℕ → List ℕ → ℕ → State
-calls s kinds arguments zero = s
-calls s kinds arguments (suc k) = call (calls s kinds arguments k) (getD kinds k 0) (getD arguments k 0) .state
-
--- what call k gives
-abbrev pub callAt : State → List ℕ → List ℕ → ℕ → Outcome
-callAt s kinds arguments k = call (calls s kinds arguments k) (getD kinds k 0) (getD arguments k 0)
 
 abbrev pub seen : Moved → Outcome
 seen r = record { state = view (r .network); answer = r .answer; handled = r .handled; went = r .went }
@@ -41,37 +23,6 @@ pub record CallPost (n : Network) (o : Outcome) (r : Moved) : Type 0 where
   pub unchanged : (r .answer ≡ answers.done → ⊥) → r .network ≡ n
 
 -- ---- a burst: calls one after the other, what each gives as numbers in three lists
-
--- packets are numbered below the limit of events, which stands for none
-abbrev pub packetCode : Handled → ℕ
-packetCode (handled.Packet n) = n
-packetCode handled.Nothing = eventsMost
-
--- a lane is its own number; the other ways come after the lanes
-abbrev pub wayCode : Went → ℕ
-wayCode (went.Lane x) = x
-wayCode went.Delivered = endsMost
-wayCode went.Lost = endsMost + 1
-wayCode went.Stranded = endsMost + 2
-wayCode went.Nowhere = endsMost + 3
-
-abbrev pub least : ℕ → ℕ → ℕ
-least a b = cond (ltb a b) a b
-
--- the first k entries of a list become a function's values; the others stay
-abbrev pub filled : (ℕ → ℕ) → ℕ → List ℕ → List ℕ
-filled f k xs = tab f k ++ drop k xs
-
-pub record Lists (s : State) (kinds arguments : List ℕ) (k : ℕ) (answers packets ways answers′ packets′ ways′ : List ℕ) : Type 0 where
-  pub answered : answers′ ≡ filled (λ i. callAt s kinds arguments i .answer) k answers
-  pub handled : packets′ ≡ filled (λ i. packetCode (callAt s kinds arguments i .handled)) k packets
-  pub went : ways′ ≡ filled (λ i. wayCode (callAt s kinds arguments i .went)) k ways
-
--- as many calls as the shortest list holds
-abbrev pub shortest : List ℕ → List ℕ → List ℕ → List ℕ → List ℕ → ℕ
-shortest kinds arguments answers packets ways =
-    least (length kinds) (least (length arguments) (least (length answers) (least (length packets) (length ways))))
-
 pub record BurstPost (n : Network) (kinds arguments answers packets ways answers′ packets′ ways′ : List ℕ) (r : Burst) : Type 0 where
   pub made : r .count ≡ shortest kinds arguments answers packets ways
   -- what a reader sees, and what each call gave, is as if the calls were made one by one

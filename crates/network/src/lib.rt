@@ -1,24 +1,21 @@
 // The network: its record, and every call that moves an arrow.
-mod burst;
 mod opening;
 mod record;
 
 use arrays::Tally;
 use arrays::formed;
-use burst::NOT_FORMED;
-use burst::refuse_all;
-use burst::run;
-use burst::shortest;
-use flight::listed::ask;
-use flight::listed::carry;
+use bursts::refuse_all;
+use bursts::run;
+use bursts::shortest;
 use model::DELIVER;
 use model::FAIL;
-use model::Handled;
 use model::LOSE;
 use model::SEND;
-use model::Went;
 use moves::thread;
 pub use opening::Opened;
+use pairs::closed_walk;
+use pairs::first_bad;
+use pairs::sizes_hold;
 use queues::ROOM;
 use queues::gather;
 use queues::spread;
@@ -26,7 +23,6 @@ use queues::thread_lanes;
 pub use record::Burst;
 pub use record::Moved;
 pub use record::Network;
-use steps::step;
 ghost use mathlib.Core.Path.{_≡_};
 ghost use Rattle.model.specs.Formed.{wellFormed};
 ghost use Rattle.model.specs.Send.{sendTo};
@@ -77,7 +73,7 @@ impl Network {
     pub fn apply(self, kind: u32, argument: usize) -> Moved
         ensures { λ r. ⌜ CallPost self (call (view self) kind argument) r ⌝ }
     {
-        // by reference: a copy of the record costs more than the event
+        // not by `tally`, which would take a copy of the record
         let tally = Tally {
             flying: self.flying,
             events: self.events,
@@ -86,92 +82,37 @@ impl Network {
             lost: self.lost,
             stranded: self.stranded,
         };
-        let sound = formed(
-            &self.node,
-            &self.live,
-            &self.out,
-            &self.mark,
-            &self.turns,
-            &self.number,
-            &self.lane,
-            self.nodes,
-            self.destination,
-            self.links,
-            tally,
-        );
-        if !sound {
-            return Moved {
-                network: self,
-                answer: NOT_FORMED,
-                handled: Handled::Nothing,
-                went: Went::Nowhere,
-            };
-        }
-        let asked = ask(
-            &self.number,
-            &self.lane,
-            &self.bit,
-            self.flying,
-            kind,
-            argument,
-        );
         let mut live = self.live;
         let mut out = self.out;
         let mut local = self.local;
         let mut remote = self.remote;
         let mut mark = self.mark;
         let mut turns = self.turns;
-        // no chain is threaded for one event
-        let heads = [0u16; model::NODES];
-        let told = asked.told;
-        let r = step(
-            true,
+        let mut number = self.number;
+        let mut lane = self.lane;
+        let mut bit = self.bit;
+        let r = lent::apply(
             &self.node,
-            &heads,
-            &self.node,
-            false,
             &mut live,
             &mut out,
             &mut local,
             &mut remote,
             &mut mark,
             &mut turns,
+            &mut number,
+            &mut lane,
+            &mut bit,
             self.nodes,
             self.destination,
             self.links,
             tally,
             kind,
             argument,
-            told,
         );
+        let t = r.tally;
         let answer = r.answer;
         let handled = r.handled;
         let went = r.went;
-        if answer != 0 {
-            return Moved {
-                network: self,
-                answer,
-                handled,
-                went,
-            };
-        }
-        let t = r.tally;
-        let mut number = self.number;
-        let mut lane = self.lane;
-        let mut bit = self.bit;
-        let flying = carry(
-            &mut number,
-            &mut lane,
-            &mut bit,
-            &local,
-            self.flying,
-            kind,
-            argument,
-            asked,
-            answer,
-            handled,
-            went,
-        );
         Moved {
             network: Network {
                 node: self.node,
@@ -187,7 +128,7 @@ impl Network {
                 nodes: self.nodes,
                 destination: self.destination,
                 links: self.links,
-                flying,
+                flying: t.flying,
                 events: t.events,
                 admitted: t.admitted,
                 delivered: t.delivered,
@@ -348,14 +289,14 @@ impl Network {
 pub fn open(nodes: usize, destination: usize, list: &[u32]) -> Opened
     ensures { λ r. ⌜ OpenPost nodes destination (now (list .entry)) r ⌝ }
 {
-    if !opening::sizes_hold(nodes, destination, list.len()) {
+    if !sizes_hold(nodes, destination, list.len()) {
         return opening::refused(opening::BAD_SIZES, 0);
     }
-    let bad = opening::first_bad(nodes as u32, list);
+    let bad = first_bad(nodes as u32, list);
     if bad < list.len() / 2 {
         return opening::refused(opening::BAD_LINK, bad);
     }
-    if opening::closed_walk(nodes, list) {
+    if closed_walk(nodes, list) {
         return opening::refused(opening::CLOSED_WALK, 0);
     }
     let network = opening::filled(nodes, destination, list);

@@ -26,9 +26,9 @@ use Rattle.model.proofs.Below.{look, tab-at}
 use Rattle.model.proofs.Numbers.{never}
 use Rattle.model.proofs.Named.{few-lanes, named}
 use Rattle.steps.specs.Call.{made, call}
-use Rattle.network.specs.Calls.{calls, callAt, packetCode, wayCode, least, filled, Lists}
+use Rattle.bursts.specs.Bursts.{calls, callAt, packetCode, wayCode, least, filled, Lists}
 use Rattle.arrays.proofs.Below.{length-tab}
-use Rattle.network.proofs.Bursts.{calls-keep}
+use Rattle.bursts.proofs.Bursts.{calls-keep}
 use Rattle.replay.specs.Puts.{Room, Put}
 use Rattle.replay.specs.Digits.{joined}
 use Rattle.replay.specs.Codes.{packetWord, wayWord, codeLine, codeLines, callLines}

@@ -9,7 +9,8 @@ use Rattle.model.specs.Formed.{wellFormed}
 use Rattle.network.specs.declared.record.Network.{Network}
 use Rattle.network.specs.declared.record.Burst.{Burst}
 use Rattle.network.specs.View.{view}
-use Rattle.network.specs.Calls.{calls, BurstPost}
+use Rattle.bursts.specs.Bursts.{calls}
+use Rattle.network.specs.Calls.{BurstPost}
 use Rattle.replay.specs.Codes.{codeLines, callLines}
 use Rattle.replay.specs.Chunks.{chunk}
 use Rattle.replay.proofs.ChunkLines.{lines-are, shortest-first}

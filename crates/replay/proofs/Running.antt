@@ -15,8 +15,8 @@ use Rattle.model.proofs.Format.{sizes-small}
 use Rattle.model.proofs.Formed.{formed-if}
 use Rattle.network.specs.declared.record.Network.{Network}
 use Rattle.network.specs.View.{view}
-use Rattle.network.specs.Calls.{calls}
-use Rattle.network.proofs.Bursts.{calls-keep}
+use Rattle.bursts.specs.Bursts.{calls}
+use Rattle.bursts.proofs.Bursts.{calls-keep}
 use Rattle.replay.specs.declared.play.Played.{Played}
 use Rattle.replay.specs.Puts.{Room}
 use Rattle.replay.specs.Lines.{endingOf}

@@ -7,7 +7,7 @@ use lib.ListN.{getD}
 use Rattle.model.specs.Limits.{endsMost, eventsMost}
 use Rattle.model.specs.State.{State}
 use Rattle.model.specs.Text.{ascii, digits, line, eventLine}
-use Rattle.network.specs.Calls.{callAt}
+use Rattle.bursts.specs.Bursts.{callAt}
 
 -- the least number that no packet has stands for none
 unfoldable pub packetWord : ℕ → List ℕ

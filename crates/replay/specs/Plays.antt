@@ -7,7 +7,7 @@ use lib.ListN.{length}
 use Rattle.model.specs.Formed.{wellFormed}
 use Rattle.network.specs.declared.record.Network.{Network}
 use Rattle.network.specs.View.{view}
-use Rattle.network.specs.Calls.{calls}
+use Rattle.bursts.specs.Bursts.{calls}
 use Rattle.replay.specs.declared.play.Played.{Played}
 use Rattle.replay.specs.Puts.{Room, Put}
 use Rattle.replay.specs.Codes.{callLines}

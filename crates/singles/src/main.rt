@@ -1,14 +1,10 @@
-// The events of a drill file, each by a single call on the record: a sum of what they gave, for the benchmark.
+// The events of a drill file, each by a single call in place: a sum of what they gave, for the benchmark.
 use drillfile::Cursor;
 use drillfile::Got;
 use libc::STDIN_FILENO;
 use libc::STDOUT_FILENO;
-use model::DELIVER;
 use model::Handled;
-use model::LOSE;
-use model::SEND;
 use model::Went;
-use network::Moved;
 use network::Network;
 ghost use mathlib.Core.Path.{_≡_};
 ghost use Prim.Native.Nat.{_+_};
@@ -55,23 +51,25 @@ fn index(x: u32) -> usize {
     x as usize
 }
 
-// One place that calls, so that the caller copies the record no more than it must.
-fn called(n: Network, kind: u32, a: usize) -> Moved {
-    if kind == SEND {
-        return n.send(a);
-    }
-    if kind == DELIVER {
-        return n.deliver(a);
-    }
-    if kind == LOSE {
-        return n.lose(a);
-    }
-    n.fail(a)
-}
-
 // As many events as there are bytes at most: each has two.
 fn calls(file: &[u8], from: usize, opened: Network) -> usize {
-    let mut n = opened;
+    let mut live = opened.live;
+    let mut out = opened.out;
+    let mut local = opened.local;
+    let mut remote = opened.remote;
+    let mut mark = opened.mark;
+    let mut turns = opened.turns;
+    let mut number = opened.number;
+    let mut lane = opened.lane;
+    let mut bit = opened.bit;
+    let mut tally = arrays::Tally {
+        flying: opened.flying,
+        events: opened.events,
+        admitted: opened.admitted,
+        delivered: opened.delivered,
+        lost: opened.lost,
+        stranded: opened.stranded,
+    };
     let mut at = from;
     let mut sum: usize = 1;
     let mut left = INPUT;
@@ -87,11 +85,28 @@ fn calls(file: &[u8], from: usize, opened: Network) -> usize {
         };
         at = next.at;
         let a = index(argument);
-        let m = called(n, kind, a);
+        let m = lent::apply(
+            &opened.node,
+            &mut live,
+            &mut out,
+            &mut local,
+            &mut remote,
+            &mut mark,
+            &mut turns,
+            &mut number,
+            &mut lane,
+            &mut bit,
+            opened.nodes,
+            opened.destination,
+            opened.links,
+            tally,
+            kind,
+            a,
+        );
         let handled = m.handled;
         let went = m.went;
         sum = noted(sum, index(m.answer), packet_code(handled), way_code(went));
-        n = m.network;
+        tally = m.tally;
     }
     sum
 }

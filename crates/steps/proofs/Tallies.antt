@@ -1,6 +1,6 @@
 -- What a step's answer and counts make of a state. Assumes nothing.
 use Prim.Native.Nat.{ℕ, _+_, _*_, _<_}
-use mathlib.Core.Path.{_≡_, sym, _∙_}
+use mathlib.Core.Path.{_≡_, refl, sym, ap, _∙_}
 use mathlib.Core.Bool.{Bool, false}
 use mathlib.Core.List.{List}
 use lib.ListN.{length, length-append}
@@ -15,7 +15,7 @@ use Rattle.arrays.specs.declared.Tally.{Tally}
 use Rattle.arrays.specs.Told.{passedBy, passed}
 use Rattle.arrays.proofs.Below.{used-in}
 use Rattle.steps.specs.declared.tally.Step.{Step}
-use Rattle.steps.specs.Steps.{stateWith, outcomeOf, tallied}
+use Rattle.steps.specs.Steps.{stateWith, outcomeOf, tallied, Still}
 
 module _ (node : List ℕ) (live out local remote mark : List Bool) (turns : List ℕ) (nodes destination links : ℕ) (flight : List Packet) where
   -- counted, the packets in flight apart
@@ -59,3 +59,14 @@ module _ (local : List Bool) (flight : List Packet) {r : Step} {t : Tally} {answ
   pub leaves-long : {n x : ℕ} → r ≡ record { tally = t; answer = answer; handled = handled.Packet n; went = went.Lane x }
       → t .flying ≡ length flight + 1 → length (passed local flight (r .handled) (r .went)) ≡ r .tally .flying
   leaves-long q e = rw q (length-append flight _ ∙ sym e)
+
+-- ---- what a refusal leaves
+module _ {r : Step} {t : Tally} {answer : ℕ} {h : Handled} {w : Went} (q : r ≡ record { tally = t; answer = answer; handled = h; went = w }) where
+  pub tally-is : r .tally ≡ t
+  tally-is = ap (λ (s : Step). s .tally) q
+
+  pub answer-is : r .answer ≡ answer
+  answer-is = ap (λ (s : Step). s .answer) q
+
+  pub still : (out local mark : List Bool) (turns : List ℕ) → Still t (r .tally) out local mark turns out local mark turns
+  still out local mark turns = record { same-tally = tally-is; same-out = refl; same-local = refl; same-mark = refl; same-turns = refl }

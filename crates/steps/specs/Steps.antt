@@ -34,6 +34,14 @@ pub record Whole (live out local remote mark : List Bool) (turns : List ℕ) : T
   pub remote-long : length remote ≡ endsMost
   pub more : Room out local mark turns
 
+-- "Every refusal leaves the record .. unchanged": the counts and the arrays that a packet's way can change
+pub record Still (t t′ : Tally) (out local mark : List Bool) (turns : List ℕ) (out′ local′ mark′ : List Bool) (turns′ : List ℕ) : Type 0 where
+  pub same-tally : t′ ≡ t
+  pub same-out : out′ ≡ out
+  pub same-local : local′ ≡ local
+  pub same-mark : mark′ ≡ mark
+  pub same-turns : turns′ ≡ turns
+
 -- where the chains are used they are right
 abbrev pub Chained : Bool → ℕ → List ℕ → List ℕ → List ℕ → Type 0
 Chained chained links node heads next = chained ≡ true → (v : ℕ) → v < nodesMost → Chain links node heads next v

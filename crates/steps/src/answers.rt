@@ -1,8 +1,6 @@
 // The numbers of an event's refusals.
 pub(crate) const DONE: u32 = 0;
 
-pub(crate) const NOT_FORMED: u32 = 1;
-
 pub(crate) const NO_MORE_EVENTS: u32 = 5;
 
 pub(crate) const NO_SUCH: u32 = 6;

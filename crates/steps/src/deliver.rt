@@ -25,7 +25,7 @@ ghost use Rattle.model.specs.Lanes.{onLane};
 ghost use Rattle.model.specs.Deliver.{deliverOn};
 ghost use Rattle.arrays.specs.View.{endsSeen};
 ghost use Rattle.arrays.specs.Told.{oldestIn, without, passed};
-ghost use Rattle.steps.specs.Steps.{stateWith, outcomeOf, Room, Chained, MarksLive, Fair, Sound, landed};
+ghost use Rattle.steps.specs.Steps.{stateWith, outcomeOf, Room, Still, Chained, MarksLive, Fair, Sound, landed};
 
 // The packet n has come to end y: the end of its way, back where the end is Out, or out by the lowest.
 fn land<'a>(
@@ -104,7 +104,7 @@ pub(crate) fn deliver_step<'a>(
     told: Told,
 ) -> Step
     requires { ⌜ Sound (now node) (now live) (now mark) (now turns) nodes destination links tally × (tally .events < eventsMost) × (told .there ≡ true → 0 < tally .flying) × Room (now out) (now local) (now mark) (now turns) × Chained chained links (now node) (now heads) (now next) × (length (now remote) ≡ endsMost) ⌝ }
-    ensures { λ r. ⌜ ((flight : List Packet) → told ≡ oldestIn (onLane x flight) → wellFormed (stateWith (now (node .entry)) (now (live .entry)) (now (out .entry)) (now (local .entry)) (now (remote .entry)) (now (mark .entry)) (now (turns .entry)) nodes destination links flight tally) ≡ true → outcomeOf (stateWith (now (node .entry)) (now (live .entry)) (now (out .exit)) (now (local .exit)) (now (remote .exit)) (now (mark .exit)) (now (turns .exit)) nodes destination links (passed (now (local .exit)) (without (r .answer) x flight) (r .handled) (r .went)) (r .tally)) r ≡ deliverOn (stateWith (now (node .entry)) (now (live .entry)) (now (out .entry)) (now (local .entry)) (now (remote .entry)) (now (mark .entry)) (now (turns .entry)) nodes destination links flight tally) x) × ((flight : List Packet) → told ≡ oldestIn (onLane x flight) → length flight ≡ tally .flying → length (passed (now (local .exit)) (without (r .answer) x flight) (r .handled) (r .went)) ≡ r .tally .flying) × Room (now (out .exit)) (now (local .exit)) (now (mark .exit)) (now (turns .exit)) × (length (now (remote .exit)) ≡ endsMost) ⌝ }
+    ensures { λ r. ⌜ ((flight : List Packet) → told ≡ oldestIn (onLane x flight) → wellFormed (stateWith (now (node .entry)) (now (live .entry)) (now (out .entry)) (now (local .entry)) (now (remote .entry)) (now (mark .entry)) (now (turns .entry)) nodes destination links flight tally) ≡ true → outcomeOf (stateWith (now (node .entry)) (now (live .entry)) (now (out .exit)) (now (local .exit)) (now (remote .exit)) (now (mark .exit)) (now (turns .exit)) nodes destination links (passed (now (local .exit)) (without (r .answer) x flight) (r .handled) (r .went)) (r .tally)) r ≡ deliverOn (stateWith (now (node .entry)) (now (live .entry)) (now (out .entry)) (now (local .entry)) (now (remote .entry)) (now (mark .entry)) (now (turns .entry)) nodes destination links flight tally) x) × ((flight : List Packet) → told ≡ oldestIn (onLane x flight) → length flight ≡ tally .flying → length (passed (now (local .exit)) (without (r .answer) x flight) (r .handled) (r .went)) ≡ r .tally .flying) × Room (now (out .exit)) (now (local .exit)) (now (mark .exit)) (now (turns .exit)) × (length (now (remote .exit)) ≡ endsMost) × ((r .answer ≡ 0 → ⊥) → Still tally (r .tally) (now (out .entry)) (now (local .entry)) (now (mark .entry)) (now (turns .entry)) (now (out .exit)) (now (local .exit)) (now (mark .exit)) (now (turns .exit))) × ((r .answer ≡ 0 → ⊥) → now (remote .exit) ≡ now (remote .entry)) ⌝ }
 {
     let answer = refusal(live, links, x, told.there);
     if answer != DONE {

@@ -11,7 +11,6 @@ mod tally;
 
 use answers::NO_MORE_EVENTS;
 use answers::NO_SUCH;
-use answers::NOT_FORMED;
 use arrays::Tally;
 use arrays::Told;
 use deliver::deliver_step;
@@ -33,11 +32,10 @@ ghost use Rattle.model.specs.State.{Packet};
 ghost use Rattle.model.specs.Formed.{wellFormed};
 ghost use Rattle.steps.specs.Call.{call};
 ghost use Rattle.arrays.specs.Told.{tells, flies};
-ghost use Rattle.steps.specs.Steps.{stateWith, outcomeOf, Chained, Whole, Sound};
+ghost use Rattle.steps.specs.Steps.{stateWith, outcomeOf, Still, Chained, Whole, Sound};
 
 // One event, from what the packets in flight tell it; the caller moves these as the answer says.
 pub fn step<'a>(
-    formed: bool,
     node: &'a [u16; model::ENDS],
     heads: &'a [u16; model::NODES],
     next: &'a [u16; model::ENDS],
@@ -56,12 +54,9 @@ pub fn step<'a>(
     argument: usize,
     told: Told,
 ) -> Step
-    requires { ⌜ (formed ≡ true → Sound (now node) (now live) (now mark) (now turns) nodes destination links tally) × Whole (now live) (now out) (now local) (now remote) (now mark) (now turns) × Chained chained links (now node) (now heads) (now next) × (told .there ≡ true → 0 < tally .flying) × (told .gone ≤ tally .flying) ⌝ }
-    ensures { λ r. ⌜ ((flight : List Packet) → told ≡ tells flight kind argument → length flight ≡ tally .flying → formed ≡ wellFormed (stateWith (now (node .entry)) (now (live .entry)) (now (out .entry)) (now (local .entry)) (now (remote .entry)) (now (mark .entry)) (now (turns .entry)) nodes destination links flight tally) → outcomeOf (stateWith (now (node .entry)) (now (live .exit)) (now (out .exit)) (now (local .exit)) (now (remote .exit)) (now (mark .exit)) (now (turns .exit)) nodes destination links (flies kind argument (now (local .exit)) flight (r .answer) (r .handled) (r .went)) (r .tally)) r ≡ call (stateWith (now (node .entry)) (now (live .entry)) (now (out .entry)) (now (local .entry)) (now (remote .entry)) (now (mark .entry)) (now (turns .entry)) nodes destination links flight tally) kind argument) × ((flight : List Packet) → told ≡ tells flight kind argument → length flight ≡ tally .flying → length (flies kind argument (now (local .exit)) flight (r .answer) (r .handled) (r .went)) ≡ r .tally .flying) × Whole (now (live .exit)) (now (out .exit)) (now (local .exit)) (now (remote .exit)) (now (mark .exit)) (now (turns .exit)) ⌝ }
+    requires { ⌜ Sound (now node) (now live) (now mark) (now turns) nodes destination links tally × Whole (now live) (now out) (now local) (now remote) (now mark) (now turns) × Chained chained links (now node) (now heads) (now next) × (told .there ≡ true → 0 < tally .flying) × (told .gone ≤ tally .flying) ⌝ }
+    ensures { λ r. ⌜ ((flight : List Packet) → told ≡ tells flight kind argument → length flight ≡ tally .flying → wellFormed (stateWith (now (node .entry)) (now (live .entry)) (now (out .entry)) (now (local .entry)) (now (remote .entry)) (now (mark .entry)) (now (turns .entry)) nodes destination links flight tally) ≡ true → outcomeOf (stateWith (now (node .entry)) (now (live .exit)) (now (out .exit)) (now (local .exit)) (now (remote .exit)) (now (mark .exit)) (now (turns .exit)) nodes destination links (flies kind argument (now (local .exit)) flight (r .answer) (r .handled) (r .went)) (r .tally)) r ≡ call (stateWith (now (node .entry)) (now (live .entry)) (now (out .entry)) (now (local .entry)) (now (remote .entry)) (now (mark .entry)) (now (turns .entry)) nodes destination links flight tally) kind argument) × ((flight : List Packet) → told ≡ tells flight kind argument → length flight ≡ tally .flying → length (flies kind argument (now (local .exit)) flight (r .answer) (r .handled) (r .went)) ≡ r .tally .flying) × Whole (now (live .exit)) (now (out .exit)) (now (local .exit)) (now (remote .exit)) (now (mark .exit)) (now (turns .exit)) × ((r .answer ≡ 0 → ⊥) → Still tally (r .tally) (now (out .entry)) (now (local .entry)) (now (mark .entry)) (now (turns .entry)) (now (out .exit)) (now (local .exit)) (now (mark .exit)) (now (turns .exit))) × ((r .answer ≡ 0 → ⊥) → (now (live .exit) ≡ now (live .entry)) × (now (remote .exit) ≡ now (remote .entry))) ⌝ }
 {
-    if !formed {
-        return bare(tally, NOT_FORMED);
-    }
     if model::EVENTS <= tally.events {
         return bare(tally, NO_MORE_EVENTS);
     }

@@ -20,7 +20,7 @@ ghost use Rattle.model.specs.State.{Packet};
 ghost use Rattle.model.specs.Formed.{wellFormed};
 ghost use Rattle.model.specs.Send.{sendTo};
 ghost use Rattle.arrays.specs.Told.{passed};
-ghost use Rattle.steps.specs.Steps.{stateWith, outcomeOf, Room, Chained, Sound};
+ghost use Rattle.steps.specs.Steps.{stateWith, outcomeOf, Room, Still, Chained, Sound};
 
 pub(crate) fn send_step<'a>(
     node: &'a [u16; model::ENDS],
@@ -39,7 +39,7 @@ pub(crate) fn send_step<'a>(
     v: usize,
 ) -> Step
     requires { ⌜ Sound (now node) (now live) (now mark) (now turns) nodes destination links tally × (tally .events < eventsMost) × Room (now out) (now local) (now mark) (now turns) × Chained chained links (now node) (now heads) (now next) ⌝ }
-    ensures { λ r. ⌜ ((remote : List Bool) (flight : List Packet) → length flight ≡ tally .flying → wellFormed (stateWith (now (node .entry)) (now (live .entry)) (now (out .entry)) (now (local .entry)) remote (now (mark .entry)) (now (turns .entry)) nodes destination links flight tally) ≡ true → outcomeOf (stateWith (now (node .entry)) (now (live .entry)) (now (out .exit)) (now (local .exit)) remote (now (mark .exit)) (now (turns .exit)) nodes destination links (passed (now (local .exit)) flight (r .handled) (r .went)) (r .tally)) r ≡ sendTo (stateWith (now (node .entry)) (now (live .entry)) (now (out .entry)) (now (local .entry)) remote (now (mark .entry)) (now (turns .entry)) nodes destination links flight tally) v) × ((flight : List Packet) → length flight ≡ tally .flying → length (passed (now (local .exit)) flight (r .handled) (r .went)) ≡ r .tally .flying) × Room (now (out .exit)) (now (local .exit)) (now (mark .exit)) (now (turns .exit)) ⌝ }
+    ensures { λ r. ⌜ ((remote : List Bool) (flight : List Packet) → length flight ≡ tally .flying → wellFormed (stateWith (now (node .entry)) (now (live .entry)) (now (out .entry)) (now (local .entry)) remote (now (mark .entry)) (now (turns .entry)) nodes destination links flight tally) ≡ true → outcomeOf (stateWith (now (node .entry)) (now (live .entry)) (now (out .exit)) (now (local .exit)) remote (now (mark .exit)) (now (turns .exit)) nodes destination links (passed (now (local .exit)) flight (r .handled) (r .went)) (r .tally)) r ≡ sendTo (stateWith (now (node .entry)) (now (live .entry)) (now (out .entry)) (now (local .entry)) remote (now (mark .entry)) (now (turns .entry)) nodes destination links flight tally) v) × ((flight : List Packet) → length flight ≡ tally .flying → length (passed (now (local .exit)) flight (r .handled) (r .went)) ≡ r .tally .flying) × Room (now (out .exit)) (now (local .exit)) (now (mark .exit)) (now (turns .exit)) × ((r .answer ≡ 0 → ⊥) → Still tally (r .tally) (now (out .entry)) (now (local .entry)) (now (mark .entry)) (now (turns .entry)) (now (out .exit)) (now (local .exit)) (now (mark .exit)) (now (turns .exit))) ⌝ }
 {
     if nodes <= v {
         return bare(tally, NO_SUCH);

@@ -1,14 +1,17 @@
 -- So many events may still be read. Assumes nothing.
 use Prim.Native.Nat.{_≤_}
+use native.Mathlib.Omega.{arith}
 use borrow.Author.Needs.{needs}
 use Rattle.singles.proofs.calls.Statement.{statement}
 use Rattle.singles.proofs.calls.Tie as tie
 
 abbrev Inv-loop : tie.InvT-loop
-Inv-loop file from n₀ at₀ sum₀ left₀ n at sum left = left ≤ 65537
+Inv-loop file from opened live₀ out₀ local₀ remote₀ mark₀ turns₀ number₀ lane₀ bit₀ tally₀ at₀ sum₀ left₀ live out local remote mark turns number lane bit tally at sum left =
+    left ≤ 65537
 
 abbrev μ-loop : tie.MeasureT-loop
-μ-loop file from n₀ at₀ sum₀ left₀ n at sum left = left
+μ-loop file from opened live₀ out₀ local₀ remote₀ mark₀ turns₀ number₀ lane₀ bit₀ tally₀ at₀ sum₀ left₀ live out local remote mark turns number lane bit tally at sum left =
+    left
 
 loop-holds : tie.Need-loop-holds Inv-loop μ-loop
 loop-holds c = search needs
@@ -28,8 +31,8 @@ returns c = search needs
 index-requires : tie.Need-index-requires Inv-loop μ-loop
 index-requires c κs = search needs
 
-called-requires : tie.Need-called-requires Inv-loop μ-loop
-called-requires c κs = search needs
+apply-requires : tie.Need-apply-requires Inv-loop μ-loop
+apply-requires c κs = search needs
 
 index-requires-2 : tie.Need-index-requires-2 Inv-loop μ-loop
 index-requires-2 c κs = search needs
@@ -44,10 +47,10 @@ noted-requires : tie.Need-noted-requires Inv-loop μ-loop
 noted-requires c κs = search needs
 
 loop-less : tie.Need-loop-less Inv-loop μ-loop
-loop-less c = search needs
+loop-less c = omega (arith, c .before .before .before .before .before .before .before .before .before .before .before .before .before .before .before .before .before .before .before .before .before .before .loop-test .taken)
 
 loop-again : tie.Need-loop-again Inv-loop μ-loop
-loop-again c = search needs
+loop-again c = omega (arith, c .before .before .before .before .before .before .before .before .before .before .before .before .before .before .before .before .before .before .before .before .before .before .before .loop .inv, c .before .before .before .before .before .before .before .before .before .before .before .before .before .before .before .before .before .before .before .before .before .before .loop-test .taken)
 
 returns-2 : tie.Need-returns-2 Inv-loop μ-loop
 returns-2 c = search needs
@@ -64,7 +67,7 @@ calls-spec =
     enum-known-kind
     returns
     index-requires
-    called-requires
+    apply-requires
     index-requires-2
     packet-code-requires
     way-code-requires

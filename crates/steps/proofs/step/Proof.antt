@@ -1,13 +1,12 @@
 -- By the kind, after the two refusals that need none. Assumes nothing.
 use Prim.Native.Nat.{ℕ}
 use native.Mathlib.Omega.{arith}
-use mathlib.Core.Path.{_≡_, sym, ap, _∙_}
+use mathlib.Core.Path.{_≡_, refl, sym, ap, _∙_}
 use mathlib.Core.Bool.{Bool}
 use mathlib.Core.List.{List}
 use lib.ListN.{length}
 use denote.Ref.{now}
 use borrow.Author.Needs.{needs}
-use borrow.Author.Tests.{not-true, not-false}
 use Rattle.model.specs.declared.Handled.the-variants as handled
 use Rattle.model.specs.declared.Went.the-variants as went
 use Rattle.model.specs.State.{Packet, State}
@@ -16,8 +15,9 @@ use Rattle.arrays.specs.Told.{flies}
 use Rattle.steps.specs.declared.tally.Step.{Step}
 use Rattle.steps.specs.Call.{call}
 use Rattle.steps.specs.Steps.{stateWith, outcomeOf}
+use Rattle.steps.proofs.Tallies.{still}
 use Rattle.steps.proofs.Tellings.{told-deliver, told-lose, told-fail, flies-send, flies-deliver, flies-lose, flies-fail, flies-not}
-use Rattle.steps.proofs.Calls.{call-send, call-deliver, call-lose, call-fail, call-not-formed, call-no-more, call-unknown}
+use Rattle.steps.proofs.Calls.{call-send, call-deliver, call-lose, call-fail, call-no-more, call-unknown}
 use Rattle.steps.proofs.step.Statement.{statement}
 use Rattle.steps.proofs.step.Tie as tie
 
@@ -54,104 +54,103 @@ bare-requires c κs = search needs
 
 returns : tie.Need-returns
 returns c =
-    let a = c .before .before .args in (
+    let a = c .before .before .before .args in (
       λ flight told many formed.
-          refusal (c .before .before) flight (c .bare .ensures) (λ e. omega (arith, e))
-          ∙ call-not-formed (seen (c .before .before) flight) (a .kind) (a .argument) (sym formed ∙ not-true (a .formed) (c .before .if1 .taken)),
-      λ flight told many. refused-long (c .before .before) flight (c .bare .ensures) (λ e. omega (arith, e)) many,
-      c .before .before .pre .1,
-    )
-
-bare-requires-2 : tie.Need-bare-requires-2
-bare-requires-2 c κs = search needs
-
-returns-2 : tie.Need-returns-2
-returns-2 c =
-    let a = c .before .before .before .before .args in (
-      λ flight told many formed.
-          refusal (c .before .before .before .before) flight (c .bare2 .ensures) (λ e. omega (arith, e))
-          ∙ call-no-more (seen (c .before .before .before .before) flight) (a .kind) (a .argument) (sym formed ∙ not-false (a .formed) (c .before .before .before .if1 .left)) (c .before .if2 .taken),
-      λ flight told many. refused-long (c .before .before .before .before) flight (c .bare2 .ensures) (λ e. omega (arith, e)) many,
-      c .before .before .before .before .pre .1,
+          refusal (c .before .before .before) flight (c .bare .ensures) (λ e. omega (arith, e))
+          ∙ call-no-more (seen (c .before .before .before) flight) (a .kind) (a .argument) formed (c .before .if1 .taken),
+      λ flight told many. refused-long (c .before .before .before) flight (c .bare .ensures) (λ e. omega (arith, e)) many,
+      c .before .before .before .pre .1,
+      λ n. still (c .bare .ensures) (now (a .out)) (now (a .local)) (now (a .mark)) (now (a .turns)),
+      λ n. (refl, refl),
     )
 
 send-step-requires : tie.Need-send-step-requires
-send-step-requires c κs = (c .before .before .before .before .before .before .before .before .before .pre .0 (not-false (c .before .before .before .before .before .before .before .before .before .args .formed) (c .before .before .before .before .before .before .before .before .if1 .left)), c .before .before .before .before .before .before .if2 .left, c .before .before .before .before .before .before .before .before .before .pre .1 .more, c .before .before .before .before .before .before .before .before .before .pre .2)
+send-step-requires c κs = (c .before .before .before .before .before .before .before .before .pre .0, c .before .before .before .before .before .before .if1 .left, c .before .before .before .before .before .before .before .before .pre .1 .more, c .before .before .before .before .before .before .before .before .pre .2)
 
-returns-3 : tie.Need-returns-3
-returns-3 c =
-    let a = c .before .before .before .before .before .before .before .before .before .before .args in
-    let w = c .before .before .before .before .before .before .before .before .before .before .pre .1 in (
+returns-2 : tie.Need-returns-2
+returns-2 c =
+    let a = c .before .before .before .before .before .before .before .before .before .args in
+    let w = c .before .before .before .before .before .before .before .before .before .pre .1 in (
       λ flight told many formed.
-          with-flight (now (a .node)) (now (a .live)) _ _ (now (a .remote)) _ _ (a .nodes) (a .destination) (a .links) (c .send-step .result) (flies-send (a .argument) _ flight (c .send-step .result .answer) (c .send-step .result .handled) (c .send-step .result .went) (c .before .before .before .before .before .before .if3 .taken))
-          (of-kind (seen (c .before .before .before .before .before .before .before .before .before .before) flight) (a .argument) 1 (c .before .before .before .before .before .before .if3 .taken) (c .send-step .ensures .0 (now (a .remote)) flight many (sym formed ∙ not-false (a .formed) (c .before .before .before .before .before .before .before .before .before .if1 .left)) ∙ call-send (seen (c .before .before .before .before .before .before .before .before .before .before) flight) (a .argument))),
-      λ flight told many. ap (λ (f : List Packet). length f) (flies-send (a .argument) _ flight (c .send-step .result .answer) (c .send-step .result .handled) (c .send-step .result .went) (c .before .before .before .before .before .before .if3 .taken)) ∙ c .send-step .ensures .1 flight many,
+          with-flight (now (a .node)) (now (a .live)) _ _ (now (a .remote)) _ _ (a .nodes) (a .destination) (a .links) (c .send-step .result) (flies-send (a .argument) _ flight (c .send-step .result .answer) (c .send-step .result .handled) (c .send-step .result .went) (c .before .before .before .before .before .before .if2 .taken))
+          (of-kind (seen (c .before .before .before .before .before .before .before .before .before) flight) (a .argument) 1 (c .before .before .before .before .before .before .if2 .taken) (c .send-step .ensures .0 (now (a .remote)) flight many formed ∙ call-send (seen (c .before .before .before .before .before .before .before .before .before) flight) (a .argument))),
+      λ flight told many. ap (λ (f : List Packet). length f) (flies-send (a .argument) _ flight (c .send-step .result .answer) (c .send-step .result .handled) (c .send-step .result .went) (c .before .before .before .before .before .before .if2 .taken)) ∙ c .send-step .ensures .1 flight many,
       record { live-long = w .live-long; remote-long = w .remote-long; more = c .send-step .ensures .2 },
+      c .send-step .ensures .3,
+      λ n. (refl, refl),
     )
 
 deliver-step-requires : tie.Need-deliver-step-requires
-deliver-step-requires c κs = (c .before .before .before .before .before .before .before .before .before .before .before .pre .0 (not-false (c .before .before .before .before .before .before .before .before .before .before .before .args .formed) (c .before .before .before .before .before .before .before .before .before .before .if1 .left)), c .before .before .before .before .before .before .before .before .if2 .left, c .before .before .before .before .before .before .before .before .before .before .before .pre .3, c .before .before .before .before .before .before .before .before .before .before .before .pre .1 .more, c .before .before .before .before .before .before .before .before .before .before .before .pre .2, c .before .before .before .before .before .before .before .before .before .before .before .pre .1 .remote-long)
+deliver-step-requires c κs = (c .before .before .before .before .before .before .before .before .before .before .pre .0, c .before .before .before .before .before .before .before .before .if1 .left, c .before .before .before .before .before .before .before .before .before .before .pre .3, c .before .before .before .before .before .before .before .before .before .before .pre .1 .more, c .before .before .before .before .before .before .before .before .before .before .pre .2, c .before .before .before .before .before .before .before .before .before .before .pre .1 .remote-long)
 
-returns-4 : tie.Need-returns-4
-returns-4 c =
-    let a = c .before .before .before .before .before .before .before .before .before .before .before .before .args in
-    let w = c .before .before .before .before .before .before .before .before .before .before .before .before .pre .1 in (
+returns-3 : tie.Need-returns-3
+returns-3 c =
+    let a = c .before .before .before .before .before .before .before .before .before .before .before .args in
+    let w = c .before .before .before .before .before .before .before .before .before .before .before .pre .1 in (
       λ flight told many formed.
-          with-flight (now (a .node)) (now (a .live)) _ _ _ _ _ (a .nodes) (a .destination) (a .links) (c .deliver-step .result) (flies-deliver (a .argument) _ flight (c .deliver-step .result .answer) (c .deliver-step .result .handled) (c .deliver-step .result .went) (c .before .before .before .before .before .before .before .if4 .taken))
-          (of-kind (seen (c .before .before .before .before .before .before .before .before .before .before .before .before) flight) (a .argument) 2 (c .before .before .before .before .before .before .before .if4 .taken) (c .deliver-step .ensures .0 flight (told-deliver flight (a .argument) (c .before .before .before .before .before .before .before .if4 .taken) told) (sym formed ∙ not-false (a .formed) (c .before .before .before .before .before .before .before .before .before .before .before .if1 .left)) ∙ call-deliver (seen (c .before .before .before .before .before .before .before .before .before .before .before .before) flight) (a .argument))),
-      λ flight told many. ap (λ (f : List Packet). length f) (flies-deliver (a .argument) _ flight (c .deliver-step .result .answer) (c .deliver-step .result .handled) (c .deliver-step .result .went) (c .before .before .before .before .before .before .before .if4 .taken)) ∙ c .deliver-step .ensures .1 flight (told-deliver flight (a .argument) (c .before .before .before .before .before .before .before .if4 .taken) told) many,
+          with-flight (now (a .node)) (now (a .live)) _ _ _ _ _ (a .nodes) (a .destination) (a .links) (c .deliver-step .result) (flies-deliver (a .argument) _ flight (c .deliver-step .result .answer) (c .deliver-step .result .handled) (c .deliver-step .result .went) (c .before .before .before .before .before .before .before .if3 .taken))
+          (of-kind (seen (c .before .before .before .before .before .before .before .before .before .before .before) flight) (a .argument) 2 (c .before .before .before .before .before .before .before .if3 .taken) (c .deliver-step .ensures .0 flight (told-deliver flight (a .argument) (c .before .before .before .before .before .before .before .if3 .taken) told) formed ∙ call-deliver (seen (c .before .before .before .before .before .before .before .before .before .before .before) flight) (a .argument))),
+      λ flight told many. ap (λ (f : List Packet). length f) (flies-deliver (a .argument) _ flight (c .deliver-step .result .answer) (c .deliver-step .result .handled) (c .deliver-step .result .went) (c .before .before .before .before .before .before .before .if3 .taken)) ∙ c .deliver-step .ensures .1 flight (told-deliver flight (a .argument) (c .before .before .before .before .before .before .before .if3 .taken) told) many,
       record { live-long = w .live-long; remote-long = c .deliver-step .ensures .3; more = c .deliver-step .ensures .2 },
+      c .deliver-step .ensures .4,
+      λ n. (refl, c .deliver-step .ensures .5 n),
     )
 
 lose-step-requires : tie.Need-lose-step-requires
 lose-step-requires c κs =
-    let s = c .before .before .before .before .before .before .before .pre .0 (not-false (c .before .before .before .before .before .before .before .args .formed) (c .before .before .before .before .before .before .if1 .left)) in
-    (s .links-most, s .fair (c .before .before .before .before .if2 .left), c .before .before .before .before .before .before .before .pre .3)
+    let s = c .before .before .before .before .before .before .pre .0 in
+    (s .links-most, s .fair (c .before .before .before .before .if1 .left), c .before .before .before .before .before .before .pre .3)
 
-returns-5 : tie.Need-returns-5
-returns-5 c =
-    let a = c .before .before .before .before .before .before .before .before .args in (
+returns-4 : tie.Need-returns-4
+returns-4 c =
+    let a = c .before .before .before .before .before .before .before .args in (
       λ flight told many formed.
-          with-flight (now (a .node)) (now (a .live)) (now (a .out)) (now (a .local)) (now (a .remote)) (now (a .mark)) (now (a .turns)) (a .nodes) (a .destination) (a .links) (c .lose-step .result) (flies-lose (a .argument) (now (a .local)) flight (c .lose-step .result .answer) (c .lose-step .result .handled) (c .lose-step .result .went) (c .before .before .if5 .taken))
-          (of-kind (seen (c .before .before .before .before .before .before .before .before) flight) (a .argument) 3 (c .before .before .if5 .taken)
-          (c .lose-step .ensures .0 (now (a .node)) (now (a .out)) (now (a .local)) (now (a .remote)) (now (a .mark)) (now (a .turns)) (a .nodes) (a .destination) flight (told-lose flight (a .argument) (c .before .before .if5 .taken) told) (sym formed ∙ not-false (a .formed) (c .before .before .before .before .before .before .before .if1 .left)) ∙ call-lose (seen (c .before .before .before .before .before .before .before .before) flight) (a .argument))),
-      λ flight told many. ap (λ (f : List Packet). length f) (flies-lose (a .argument) (now (a .local)) flight (c .lose-step .result .answer) (c .lose-step .result .handled) (c .lose-step .result .went) (c .before .before .if5 .taken)) ∙ c .lose-step .ensures .1 (now (a .local)) flight (told-lose flight (a .argument) (c .before .before .if5 .taken) told) many,
-      c .before .before .before .before .before .before .before .before .pre .1,
+          with-flight (now (a .node)) (now (a .live)) (now (a .out)) (now (a .local)) (now (a .remote)) (now (a .mark)) (now (a .turns)) (a .nodes) (a .destination) (a .links) (c .lose-step .result) (flies-lose (a .argument) (now (a .local)) flight (c .lose-step .result .answer) (c .lose-step .result .handled) (c .lose-step .result .went) (c .before .before .if4 .taken))
+          (of-kind (seen (c .before .before .before .before .before .before .before) flight) (a .argument) 3 (c .before .before .if4 .taken)
+          (c .lose-step .ensures .0 (now (a .node)) (now (a .out)) (now (a .local)) (now (a .remote)) (now (a .mark)) (now (a .turns)) (a .nodes) (a .destination) flight (told-lose flight (a .argument) (c .before .before .if4 .taken) told) formed ∙ call-lose (seen (c .before .before .before .before .before .before .before) flight) (a .argument))),
+      λ flight told many. ap (λ (f : List Packet). length f) (flies-lose (a .argument) (now (a .local)) flight (c .lose-step .result .answer) (c .lose-step .result .handled) (c .lose-step .result .went) (c .before .before .if4 .taken)) ∙ c .lose-step .ensures .1 (now (a .local)) flight (told-lose flight (a .argument) (c .before .before .if4 .taken) told) many,
+      c .before .before .before .before .before .before .before .pre .1,
+      λ n. record { same-tally = c .lose-step .ensures .2 n; same-out = refl; same-local = refl; same-mark = refl; same-turns = refl },
+      λ n. (refl, refl),
     )
 
 fail-step-requires : tie.Need-fail-step-requires
 fail-step-requires c κs =
-    let s = c .before .before .before .before .before .before .before .before .before .pre .0 (not-false (c .before .before .before .before .before .before .before .before .before .args .formed) (c .before .before .before .before .before .before .before .before .if1 .left)) in
-    let w = c .before .before .before .before .before .before .before .before .before .pre .1 in
-    (s .links-most, s .flying, c .before .before .before .before .before .before .before .before .before .pre .4, s .fair (c .before .before .before .before .before .before .if2 .left), w .live-long, w .more .long .mark-long)
+    let s = c .before .before .before .before .before .before .before .before .pre .0 in
+    let w = c .before .before .before .before .before .before .before .before .pre .1 in
+    (s .links-most, s .flying, c .before .before .before .before .before .before .before .before .pre .4, s .fair (c .before .before .before .before .before .before .if1 .left), w .live-long, w .more .long .mark-long)
 
-returns-6 : tie.Need-returns-6
-returns-6 c =
-    let a = c .before .before .before .before .before .before .before .before .before .before .args in
-    let w = c .before .before .before .before .before .before .before .before .before .before .pre .1 in (
+returns-5 : tie.Need-returns-5
+returns-5 c =
+    let a = c .before .before .before .before .before .before .before .before .before .args in
+    let w = c .before .before .before .before .before .before .before .before .before .pre .1 in (
       λ flight told many formed.
-          with-flight (now (a .node)) _ (now (a .out)) (now (a .local)) (now (a .remote)) _ (now (a .turns)) (a .nodes) (a .destination) (a .links) (c .fail-step .result) (flies-fail (a .argument) (now (a .local)) flight (c .fail-step .result .answer) (c .fail-step .result .handled) (c .fail-step .result .went) (c .before .before .before .if6 .taken))
-          (of-kind (seen (c .before .before .before .before .before .before .before .before .before .before) flight) (a .argument) 4 (c .before .before .before .if6 .taken)
-          (c .fail-step .ensures .0 (now (a .node)) (now (a .out)) (now (a .local)) (now (a .remote)) (now (a .turns)) (a .nodes) (a .destination) flight (told-fail flight (a .argument) (c .before .before .before .if6 .taken) told) (sym formed ∙ not-false (a .formed) (c .before .before .before .before .before .before .before .before .before .if1 .left)) ∙ call-fail (seen (c .before .before .before .before .before .before .before .before .before .before) flight) (a .argument))),
-      λ flight told many. ap (λ (f : List Packet). length f) (flies-fail (a .argument) (now (a .local)) flight (c .fail-step .result .answer) (c .fail-step .result .handled) (c .fail-step .result .went) (c .before .before .before .if6 .taken)) ∙ c .fail-step .ensures .1 (now (a .local)) flight (told-fail flight (a .argument) (c .before .before .before .if6 .taken) told) many,
+          with-flight (now (a .node)) _ (now (a .out)) (now (a .local)) (now (a .remote)) _ (now (a .turns)) (a .nodes) (a .destination) (a .links) (c .fail-step .result) (flies-fail (a .argument) (now (a .local)) flight (c .fail-step .result .answer) (c .fail-step .result .handled) (c .fail-step .result .went) (c .before .before .before .if5 .taken))
+          (of-kind (seen (c .before .before .before .before .before .before .before .before .before) flight) (a .argument) 4 (c .before .before .before .if5 .taken)
+          (c .fail-step .ensures .0 (now (a .node)) (now (a .out)) (now (a .local)) (now (a .remote)) (now (a .turns)) (a .nodes) (a .destination) flight (told-fail flight (a .argument) (c .before .before .before .if5 .taken) told) formed ∙ call-fail (seen (c .before .before .before .before .before .before .before .before .before) flight) (a .argument))),
+      λ flight told many. ap (λ (f : List Packet). length f) (flies-fail (a .argument) (now (a .local)) flight (c .fail-step .result .answer) (c .fail-step .result .handled) (c .fail-step .result .went) (c .before .before .before .if5 .taken)) ∙ c .fail-step .ensures .1 (now (a .local)) flight (told-fail flight (a .argument) (c .before .before .before .if5 .taken) told) many,
       record {
         live-long = c .fail-step .ensures .2;
         remote-long = w .remote-long;
         more = record { long = record { out-long = w .more .long .out-long; local-long = w .more .long .local-long; mark-long = c .fail-step .ensures .3 }; turns-long = w .more .turns-long };
       },
+      λ n. record { same-tally = c .fail-step .ensures .4 n .0; same-out = refl; same-local = refl; same-mark = c .fail-step .ensures .4 n .2; same-turns = refl },
+      λ n. (c .fail-step .ensures .4 n .1, refl),
     )
 
-bare-requires-3 : tie.Need-bare-requires-3
-bare-requires-3 c κs = search needs
+bare-requires-2 : tie.Need-bare-requires-2
+bare-requires-2 c κs = search needs
 
-returns-7 : tie.Need-returns-7
-returns-7 c =
-    let a = c .before .before .before .before .before .before .before .before .args in (
+returns-6 : tie.Need-returns-6
+returns-6 c =
+    let a = c .before .before .before .before .before .before .before .args in (
       λ flight told many formed.
-          refusal (c .before .before .before .before .before .before .before .before) flight (c .bare3 .ensures) (λ e. omega (arith, e))
-          ∙ call-unknown (seen (c .before .before .before .before .before .before .before .before) flight) (a .kind) (a .argument) (sym formed ∙ not-false (a .formed) (c .before .before .before .before .before .before .before .if1 .left)) (c .before .before .before .before .before .if2 .left) (c .before .before .before .before .if3 .left) (c .before .before .before .if4 .left) (c .before .before .if5 .left) (c .before .if6 .left),
-      λ flight told many. refused-long (c .before .before .before .before .before .before .before .before) flight (c .bare3 .ensures) (λ e. omega (arith, e)) many,
-      c .before .before .before .before .before .before .before .before .pre .1,
+          refusal (c .before .before .before .before .before .before .before) flight (c .bare2 .ensures) (λ e. omega (arith, e))
+          ∙ call-unknown (seen (c .before .before .before .before .before .before .before) flight) (a .kind) (a .argument) formed (c .before .before .before .before .before .if1 .left) (c .before .before .before .before .if2 .left) (c .before .before .before .if3 .left) (c .before .before .if4 .left) (c .before .if5 .left),
+      λ flight told many. refused-long (c .before .before .before .before .before .before .before) flight (c .bare2 .ensures) (λ e. omega (arith, e)) many,
+      c .before .before .before .before .before .before .before .pre .1,
+      λ n. still (c .bare2 .ensures) (now (a .out)) (now (a .local)) (now (a .mark)) (now (a .turns)),
+      λ n. (refl, refl),
     )
 
 pub step-spec : {M : Type 1} → statement M
@@ -160,15 +159,13 @@ step-spec =
     (tie.spec
     bare-requires
     returns
-    bare-requires-2
-    returns-2
     send-step-requires
-    returns-3
+    returns-2
     deliver-step-requires
-    returns-4
+    returns-3
     lose-step-requires
-    returns-5
+    returns-4
     fail-step-requires
-    returns-6
-    bare-requires-3
-    returns-7)
+    returns-5
+    bare-requires-2
+    returns-6)

@@ -1,7 +1,7 @@
 -- The refusals, the bit out of step, then the packet lands, its news heard. Assumes nothing.
 use Prim.Native.Nat.{ℕ, _-_, _*_, _/_, _<_}
 use native.Mathlib.Omega.{arith}
-use mathlib.Core.Path.{_≡_, sym, ap, _∙_}
+use mathlib.Core.Path.{_≡_, refl, sym, ap, _∙_}
 use mathlib.Core.Bool.{Bool, true, false, not, cond, xor, _&&_, _||_}
 use mathlib.Core.List.{List}
 use lib.ListN.{getD, length, length-set}
@@ -18,6 +18,7 @@ use Rattle.arrays.specs.View.{netOf, endsOf, countsOf}
 use Rattle.arrays.specs.Told.{oldestIn}
 use Rattle.arrays.proofs.Below.{used-in}
 use Rattle.steps.specs.Steps.{stateWith, landed}
+use Rattle.steps.proofs.Tallies.{still}
 use Rattle.steps.proofs.OffLanes.{There, is-there, Oldest, told-oldest, off-refused, off-found, took-is, took-gives, took-long, bare-keeps, bare-long}
 use Rattle.steps.proofs.Deliveries.{fresh-is, out-of-step, deal-lands, held-at, heard-is}
 use borrow.Author.Needs.{needs}
@@ -58,6 +59,8 @@ returns c =
       λ flight e l. bare-long (now (a .local)) flight (a .x) (c .bare .ensures) (c .before .if1 .taken) l,
       c .before .before .before .pre .3,
       c .before .before .before .pre .5,
+      λ n. still (c .bare .ensures) (now (a .out)) (now (a .local)) (now (a .mark)) (now (a .turns)),
+      λ n. refl,
     )
 
 other-requires : tie.Need-other-requires
@@ -129,6 +132,8 @@ returns-2 c =
       λ flight e l. bare-long (now (a .local)) flight (a .x) (c .bare2 .ensures) (λ z. omega (arith, z)) l,
       c .before .before .before .before .before .before .before .pre .3,
       c .before .before .before .before .before .before .before .pre .5,
+      λ n. still (c .bare2 .ensures) (now (a .out)) (now (a .local)) (now (a .mark)) (now (a .turns)),
+      λ n. refl,
     )
 
 sub-t : tie.Need-sub-t
@@ -183,6 +188,8 @@ returns-3 c =
       λ flight e l. took-long (c .land .last .1 .1 .1 .1 .1 .1 .0) flight (a .x) (c .land .result) (c .land .ensures .2) (c .land .ensures .1 (less (a .x) flight) (one-less (c .before .before .before .before .before .before .before .before .before .before .before .before) flight e l)),
       c .land .ensures .3,
       ap length (c .before .before .before .before .before .hear .ensures .1) ∙ length-set (now (a .remote)) y _ ∙ c .before .before .before .before .before .before .before .before .before .before .before .before .before .before .before .pre .5,
+      λ n. absurd (n (c .land .ensures .2)),
+      λ n. absurd (n (c .land .ensures .2)),
     )
 
 pub deliver-step-spec : {M : Type 1} → statement M

@@ -20,7 +20,7 @@ use Rattle.arrays.specs.Told.{passed, cleared}
 use Rattle.arrays.proofs.Below.{used-in}
 use Rattle.steps.specs.declared.tally.Step.{Step}
 use Rattle.steps.specs.Steps.{stateWith, outcomeOf}
-use Rattle.steps.proofs.Tallies.{counted-is}
+use Rattle.steps.proofs.Tallies.{counted-is, tally-is, answer-is}
 use Rattle.steps.proofs.Cuts.{fail-no-such, fail-down, fail-cuts, cut-is}
 use Rattle.steps.proofs.fail.fail_step.Statement.{statement}
 use Rattle.steps.proofs.fail.fail_step.Tie as tie
@@ -55,6 +55,7 @@ returns c =
       λ local flight gone many. bare-long local (a .l) flight (c .bare .ensures) many,
       c .before .before .pre .4,
       c .before .before .pre .5,
+      λ n. (tally-is (c .bare .ensures), refl, refl),
     )
 
 element-copy-out-if2 : tie.Need-element-copy-out-if2
@@ -72,6 +73,7 @@ returns-2 c =
       λ local flight gone many. bare-long local (a .l) flight (c .bare2 .ensures) many,
       c .before .before .before .before .pre .4,
       c .before .before .before .before .pre .5,
+      λ n. (tally-is (c .bare2 .ensures), refl, refl),
     )
 
 element-write-live : tie.Need-element-write-live
@@ -130,6 +132,7 @@ returns-3 c =
       λ local flight gone many. bare-long local (a .l) flight (c .bare3 .ensures) (omega (arith, gone, many, off-length (a .l) flight, ap (λ (t : Tally). t .flying) (c .before .counted .ensures))),
       length-set (now (a .live)) (a .l) false ∙ c .before .before .before .before .before .pre .4,
       length-set (set (now (a .mark)) (2 * a .l) false) (2 * a .l + 1) false ∙ length-set (now (a .mark)) (2 * a .l) false ∙ c .before .before .before .before .before .pre .5,
+      λ n. absurd (n (answer-is (c .bare3 .ensures))),
     )
 
 pub fail-step-spec : {M : Type 1} → statement M

@@ -11,7 +11,7 @@ use Rattle.model.specs.Lose.{loseOn}
 use Rattle.arrays.specs.declared.Tally.{Tally}
 use Rattle.arrays.specs.View.{netOf, endsOf, countsOf}
 use Rattle.steps.specs.Steps.{stateWith}
-use Rattle.steps.proofs.Tallies.{counted-is}
+use Rattle.steps.proofs.Tallies.{counted-is, tally-is, answer-is}
 use Rattle.steps.proofs.OffLanes.{There, is-there, told-oldest, off-refused, off-found, took-is, bare-keeps, done-takes, bare-long, lost-long}
 use borrow.Author.Needs.{needs}
 use Rattle.steps.proofs.lose.lose_step.Statement.{statement}
@@ -37,6 +37,7 @@ returns c =
           bare-keeps node (now (a .live)) out local remote mark turns nodes destination (a .links) flight (a .x) (c .bare .ensures) (c .before .if1 .taken)
           ∙ off-refused (now (a .live)) (a .links) (a .x) (a .told) node (endsOf (a .links) out local remote mark) turns nodes destination flight (countsOf (a .tally)) e formed (c .before .before .before .pre .1 .events) _ (c .before .before .refusal .ensures) (c .before .if1 .taken),
       λ local flight e l. bare-long local flight (a .x) (c .bare .ensures) (c .before .if1 .taken) l,
+      λ n. tally-is (c .bare .ensures),
     )
 
 sub-counted : tie.Need-sub-counted
@@ -64,6 +65,7 @@ returns-2 c =
       λ local flight e l.
           lost-long local flight (a .x) (c .done .ensures) (told-oldest (onLane (a .x) flight) e (t .one) .first)
           (omega (arith, l, c .before .before .before .before .pre .2 (t .one), ap (λ (t : Tally). t .flying) (c .before .counted .ensures))),
+      λ n. absurd (n (answer-is (c .done .ensures))),
     )
 
 pub lose-step-spec : {M : Type 1} → statement M

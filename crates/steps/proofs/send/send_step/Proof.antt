@@ -16,7 +16,7 @@ use Rattle.arrays.specs.View.{endsSeen}
 use Rattle.arrays.proofs.Below.{used-in}
 use Rattle.steps.specs.Steps.{stateWith}
 use Rattle.steps.proofs.Ways.{has-way, no-way, onward-by, onward-turned, turn-finds}
-use Rattle.steps.proofs.Tallies.{counted-is, done-stays, done-leaves, bare-stays, stays-long, leaves-long}
+use Rattle.steps.proofs.Tallies.{counted-is, done-stays, done-leaves, bare-stays, stays-long, leaves-long, answer-is, still}
 use Rattle.steps.proofs.Sends.{out-live, send-no-such, send-arrives, send-strands, send-full, send-goes}
 use Rattle.steps.proofs.send.send_step.Statement.{statement}
 use Rattle.steps.proofs.send.send_step.Tie as tie
@@ -52,6 +52,7 @@ returns c =
           ∙ send-no-such (seen (c .before .before) remote flight (a .tally)) (a .v) formed (c .before .before .pre .1) (c .before .if1 .taken),
       λ flight many. stays-long (now (a .local)) flight (c .bare .ensures) refl many,
       c .before .before .pre .2,
+      λ n. still (c .bare .ensures) (now (a .out)) (now (a .local)) (now (a .mark)) (now (a .turns)),
     )
 
 counted-requires : tie.Need-counted-requires
@@ -69,6 +70,7 @@ returns-2 c =
           ∙ send-arrives (seen (c .before .before .before .before) remote flight (a .tally)) (a .v) formed (c .before .before .before .before .pre .1) (c .before .before .before .if1 .left) (c .before .before .if2 .taken),
       λ flight many. stays-long (now (a .local)) flight (c .done .ensures) refl (many ∙ sym (flying-is (c .before .counted .ensures))),
       c .before .before .before .before .pre .2,
+      λ n. absurd (n (answer-is (c .done .ensures))),
     )
 
 way-requires : tie.Need-way-requires
@@ -99,6 +101,7 @@ returns-3 c =
           ∙ send-strands (seen (c .before .before .before .before .before .before .before .before .before) remote flight (a .tally)) (a .v) formed (c .before .before .before .before .before .before .before .before .before .pre .1) (c .before .before .before .before .before .before .before .before .if1 .left) (c .before .before .before .before .before .before .before .if2 .left) (sym (c .before .before .before .held .ensures) ∙ not-true _ (c .before .before .if4 .taken)),
       λ flight many. stays-long (now (a .local)) flight (c .done2 .ensures) refl (many ∙ sym (flying-is (c .before .counted2 .ensures))),
       c .before .before .before .before .before .before .before .before .before .pre .2,
+      λ n. absurd (n (answer-is (c .done2 .ensures))),
     )
 
 bare-requires-2 : tie.Need-bare-requires-2
@@ -113,6 +116,7 @@ returns-4 c =
           ∙ send-full (seen (c .before .before .before .before .before .before .before .before .before) remote flight (a .tally)) (a .v) formed (c .before .before .before .before .before .before .before .before .before .pre .1) (c .before .before .before .before .before .before .before .before .if1 .left) (c .before .before .before .before .before .before .before .if2 .left) (sym (c .before .before .before .held .ensures) ∙ not-false _ (c .before .before .if4 .left)) (omega (arith, many, c .before .if5 .taken)),
       λ flight many. stays-long (now (a .local)) flight (c .bare2 .ensures) refl many,
       c .before .before .before .before .before .before .before .before .before .pre .2,
+      λ n. still (c .bare2 .ensures) (now (a .out)) (now (a .local)) (now (a .mark)) (now (a .turns)),
     )
 
 add-counted : tie.Need-add-counted
@@ -152,6 +156,7 @@ returns-5 c =
           ∙ send-goes (seen (c .before .before .before .before .before .before .before .before .before .before .before .before .before .before .before) remote flight (a .tally)) (a .v) formed (c .before .before .before .before .before .before .before .before .before .before .before .before .before .before .before .pre .1) (c .before .before .before .before .before .before .before .before .before .before .before .before .before .before .if1 .left) (c .before .before .before .before .before .before .before .before .before .before .before .before .before .if2 .left) (sym (c .before .before .before .before .before .before .before .before .before .held .ensures) ∙ not-false _ (c .before .before .before .before .before .before .before .before .if4 .left)) (omega (arith, many, c .before .before .before .before .before .before .before .if5 .left)),
       λ flight many. leaves-long _ flight (c .done3 .ensures) (flying-is (c .before .before .before .before .before .before .counted3 .ensures) ∙ ap (λ n. n + 1) (sym many)),
       c .before .turned-way .ensures .2,
+      λ n. absurd (n (answer-is (c .done3 .ensures))),
     )
 
 bare-requires-3 : tie.Need-bare-requires-3
@@ -166,6 +171,7 @@ returns-6 c =
           ∙ send-full (seen (c .before .before .before .before .before .before .before) remote flight (a .tally)) (a .v) formed (c .before .before .before .before .before .before .before .pre .1) (c .before .before .before .before .before .before .if1 .left) (c .before .before .before .before .before .if2 .left) (out-live _ (a .v) (has-way (seen (c .before .before .before .before .before .before .before) remote flight (a .tally)) (a .v) (omega (arith, c .before .before .before .way .ensures, c .before .before .if3 .left)))) (omega (arith, many, c .before .if6 .taken)),
       λ flight many. stays-long (now (a .local)) flight (c .bare3 .ensures) refl many,
       c .before .before .before .before .before .before .before .pre .2,
+      λ n. still (c .bare3 .ensures) (now (a .out)) (now (a .local)) (now (a .mark)) (now (a .turns)),
     )
 
 add-counted-2 : tie.Need-add-counted-2
@@ -189,6 +195,7 @@ returns-7 c =
           ∙ send-goes (seen (c .before .before .before .before .before .before .before .before) remote flight (a .tally)) (a .v) formed (c .before .before .before .before .before .before .before .before .pre .1) (c .before .before .before .before .before .before .before .if1 .left) (c .before .before .before .before .before .before .if2 .left) (out-live _ (a .v) (has-way (seen (c .before .before .before .before .before .before .before .before) remote flight (a .tally)) (a .v) (omega (arith, c .before .before .before .before .way .ensures, c .before .before .before .if3 .left)))) (omega (arith, many, c .before .before .if6 .left)),
       λ flight many. leaves-long (now (a .local)) flight (c .done4 .ensures) (flying-is (c .before .counted4 .ensures) ∙ ap (λ n. n + 1) (sym many)),
       c .before .before .before .before .before .before .before .before .pre .2,
+      λ n. absurd (n (answer-is (c .done4 .ensures))),
     )
 
 pub send-step-spec : {M : Type 1} → statement M

@@ -21,9 +21,9 @@ use Rattle.steps.specs.Steps.{stateWith, Whole, Sound}
 use Rattle.steps.proofs.Sounds.{sound-if}
 use Rattle.network.specs.declared.record.Network.{Network}
 use Rattle.network.specs.View.{view, tallyOf}
-use Rattle.network.specs.Calls.{calls}
-use Rattle.network.proofs.Bursts.{calls-same, shortest-is, given-by}
-use Rattle.network.proofs.Refusals.{all-refused}
+use Rattle.bursts.specs.Bursts.{calls}
+use Rattle.bursts.proofs.Bursts.{calls-same, shortest-is, given-by}
+use Rattle.bursts.proofs.Refusals.{all-refused}
 use Rattle.network.proofs.InFlight.{lanes-named, spread-seen, few-after}
 use Rattle.network.proofs.record.Network.burst.Statement.{statement}
 use Rattle.network.proofs.record.Network.burst.Tie as tie

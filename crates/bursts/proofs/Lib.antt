@@ -1,0 +1,3 @@
+pub mod Bursts
+pub mod Going
+pub mod Refusals

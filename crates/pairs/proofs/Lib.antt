@@ -1,0 +1,3 @@
+pub mod ClosedWalks
+pub mod Filling
+pub mod BadLinks
