@@ -1,4 +1,5 @@
 pub mod Seen
+pub mod Remade
 pub mod Filled
 pub mod Openings
 pub mod OneOutcome

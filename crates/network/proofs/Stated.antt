@@ -10,11 +10,17 @@ use Rattle.model.specs.Answers as answers
 use Rattle.model.specs.Events.{Event}
 use Rattle.model.specs.Events as events
 use Rattle.model.specs.File.{ofKind}
+use Rattle.steps.specs.declared.tally.Step.{Step}
+use Rattle.lent.specs.Lent.{Arrays, LentPost}
 use Rattle.network.specs.declared.opening.Opened.{Opened}
+use Rattle.network.specs.declared.record.Network.{Network}
 use Rattle.network.specs.declared.record.Moved.{Moved}
 use Rattle.network.specs.declared.record.Burst.{Burst}
 use Rattle.network.specs.Runs.{eventIf, eventsIn, Run, opened, sent, delivered, lost, failed, applied}
 use Rattle.network.specs.Runs as runs
+use Rattle.network.specs.View.{tallyOf}
+use Rattle.network.proofs.Seen.{arraysOf}
+use Rattle.network.proofs.Remade.{remade, moved, called}
 use Rattle.network.proofs.record.Network.apply.Kinds as apply-kinds
 use Rattle.network.proofs.record.Network.apply.Reads as apply
 use Rattle.network.proofs.record.Network.send.Kinds as send-kinds
@@ -60,3 +66,9 @@ pub burst-runs : (κs : Lfts 4) (a : Dens κs burst-kinds.ps) (r : Burst) (x : A
 burst-runs κs a r x p es h =
     runs.burst (a .0) es h (now (a .1 .0)) (now (a .1 .1 .0)) (now (a .1 .1 .1 .0)) (now (a .1 .1 .1 .1 .0)) (now (a .1 .1 .1 .1 .1 .0))
     (now (x .1 .1 .1 .0)) (now (x .1 .1 .1 .1 .0)) (now (x .1 .1 .1 .1 .1 .0)) r p
+
+-- and so does a call in place on the record's arrays, whose contract is one record
+pub lent-runs : (n : Network) (kind argument : ℕ) (after : Arrays) (r : Step)
+    → LentPost (n .node) (n .nodes) (n .destination) (n .links) (arraysOf n) (tallyOf n) kind argument after r
+    → (es : List Event) → Run n es → Run (remade n after (r .tally)) (es ++ eventIf (ofKind kind) argument)
+lent-runs n kind argument after r p es h = applied n es h kind argument (moved n kind argument after r) (called n kind argument after r p)
