@@ -11,11 +11,11 @@ use Rattle.model.specs.Number.{had, refused, readNumber}
 use Rattle.model.specs.File.{ofKind, readEvent}
 use Rattle.model.proofs.Numbers.{number-place, number-moves}
 use Rattle.model.proofs.Format.{kind-made, event-end}
+use Rattle.groups.specs.declared.answers.Number.{Number}
+use Rattle.groups.specs.declared.answers.Number.the-variants.{Value, Spoilt}
+use Rattle.groups.specs.Numbers.{numberOf}
 use Rattle.drillfile.specs.declared.answers.Cursor.{Cursor}
-use Rattle.drillfile.specs.declared.answers.Number.{Number}
-use Rattle.drillfile.specs.declared.answers.Number.the-variants.{Value, Spoilt}
 use Rattle.drillfile.specs.declared.answers.Got.the-variants as got
-use Rattle.drillfile.specs.Numbers.{numberOf}
 use Rattle.drillfile.specs.Outcomes.{seen, eventAt, known}
 use Rattle.drillfile.proofs.KnownKinds.{known-makes, known-not}
 

@@ -1,6 +1,3 @@
-pub mod Masks
-pub mod Joining
-pub mod Splitting
 pub mod KnownKinds
 pub mod EventRead
 pub mod Stores
@@ -9,6 +6,4 @@ pub mod Runs
 pub mod NodeList
 pub mod HeaderRead
 pub mod HeaderWritten
-pub mod Told
-pub mod Held
 pub mod OneOutcome

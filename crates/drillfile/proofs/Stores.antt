@@ -1,58 +1,17 @@
--- What the stores of the writer leave, against the bytes to be written. Assumes nothing.
+-- What runs of stores leave, against the bytes to be written. Assumes nothing.
 use Prim.Native.Nat.{ℕ, suc, _+_, _≤_, _<_}
 use native.Mathlib.Nat.{add-zero, zero-add}
-use native.Mathlib.Numerals.{add-one}
 use native.Mathlib.Omega.{arith}
-use mathlib.Core.Path.{_≡_, refl, sym, ap, _∙_}
+use mathlib.Core.Path.{_≡_, ap, _∙_}
 use mathlib.Core.List.{List, [], _∷_, _++_}
-use mathlib.Core.Option.{some}
 use lib.ListN.{length, drop, set, length-append}
 use lib.Seq.{sets, sets-eq}
-use borrow.Author.Tests.{le-leb, lt-ltb}
-use Rattle.model.specs.Limits.{numberMost}
+use borrow.Author.Tests.{lt-ltb}
 use Rattle.model.specs.Answers as answers
-use Rattle.model.specs.Number.{numberBytes}
 use Rattle.model.specs.Writing.{store}
 use Rattle.model.proofs.Pieces.{stored}
 use Rattle.drillfile.specs.declared.answers.Written.{Written}
-use Rattle.drillfile.specs.declared.answers.Groups.{Groups}
-use Rattle.drillfile.specs.declared.answers.Groups.the-variants.{One, Two, Three, TooLarge}
-use Rattle.drillfile.specs.Numbers.{bytesOf, writeNumber}
 use Rattle.drillfile.specs.Outcomes.{refusal, holding}
-
--- ---- a number by its groups
-module _ (v : ℕ) (h : v ≤ numberMost) (r : Groups) (e : bytesOf r ≡ writeNumber v) where
-  split-into : bytesOf r ≡ some (numberBytes v)
-  unfolding writeNumber
-  split-into = e ∙ rw (le-leb v numberMost h)
-
-  pub is-one : (a : ℕ) → r ≡ One a → numberBytes v ≡ a ∷ []
-  is-one a q = let f : some (a ∷ []) ≡ some (numberBytes v) = ap bytesOf (sym q) ∙ split-into in cc
-
-  pub is-two : (a b : ℕ) → r ≡ Two a b → numberBytes v ≡ a ∷ b ∷ []
-  is-two a b q = let f : some (a ∷ b ∷ []) ≡ some (numberBytes v) = ap bytesOf (sym q) ∙ split-into in cc
-
-  pub is-three : (a b d : ℕ) → r ≡ Three a b d → numberBytes v ≡ a ∷ b ∷ d ∷ []
-  is-three a b d q = let f : some (a ∷ b ∷ d ∷ []) ≡ some (numberBytes v) = ap bytesOf (sym q) ∙ split-into in cc
-
-  pub not-large : r ≡ TooLarge → ⊥
-  not-large q = let f = ap bytesOf (sym q) ∙ split-into in let z : _≡_ {A = ℕ} 0 1 = cc in omega arith
-
--- ---- the stores of a number
-abbrev pub Put : List ℕ → ℕ → ℕ → ℕ → List ℕ → Type 0
-Put l at v next out = (next ≡ at + length (numberBytes v)) × (out ≡ sets l at (numberBytes v))
-
-module _ (l : List ℕ) (at v : ℕ) where
-  pub put-one : (a : ℕ) → numberBytes v ≡ a ∷ [] → Put l at v (at + 1) (set l at a)
-  put-one a e = rw e (refl, refl)
-
-  pub put-two : (a b : ℕ) → numberBytes v ≡ a ∷ b ∷ [] → Put l at v (at + 2) (set (set l at a) (at + 1) b)
-  put-two a b e = rw (e, add-one) (refl, refl)
-
-  pub put-three : (a b d : ℕ) → numberBytes v ≡ a ∷ b ∷ d ∷ [] → Put l at v (at + 3) (set (set (set l at a) (at + 1) b) (at + 2) d)
-  put-three a b d e =
-      let two : at + 2 ≡ suc (suc at) = omega arith in
-      rw (e, two, add-one) (refl, refl)
 
 -- ---- two runs of stores
 pub sets-append : (x y l : List ℕ) (i : ℕ) → sets (sets l i x) (i + length x) y ≡ sets l i (x ++ y)

@@ -1,4 +1,2 @@
-pub mod Numbers
 pub mod Outcomes
 pub mod Headers
-pub mod Readers

@@ -2,9 +2,9 @@
 use crate::answers::Cursor;
 use crate::answers::DONE;
 use crate::answers::Headed;
-use crate::answers::Number;
 use crate::answers::SPOILT;
-use crate::read_number;
+use groups::Number;
+use groups::read_number;
 ghost use mathlib.Core.Path.{_≡_};
 ghost use Prim.Native.Nat.{_*_, _≤_, min};
 ghost use lib.ListN.{length};

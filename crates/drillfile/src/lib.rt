@@ -1,62 +1,23 @@
 // Drill files: read and written at a position of a slice that is lent.
 mod answers;
-mod bits;
 mod header;
 mod names;
-pub mod reader;
 mod reading;
 mod writing;
 
 pub use answers::Cursor;
 pub use answers::Got;
-pub use answers::Groups;
 pub use answers::Headed;
-pub use answers::Number;
 pub use answers::Written;
-use bits::goes_on;
-use bits::last;
-use bits::low;
-use bits::more;
-use bits::rest;
+pub use groups::Groups;
+pub use groups::Number;
+pub use groups::read_number;
+pub use groups::split;
 ghost use mathlib.Core.Path.{_≡_};
-ghost use Rattle.model.specs.Number.{readNumber};
 ghost use Rattle.model.specs.File.{readHeader};
 ghost use Rattle.model.specs.Writing.{writeHeader, writeEvent};
-ghost use Rattle.drillfile.specs.Numbers.{numberOf, bytesOf, writeNumber};
 ghost use Rattle.drillfile.specs.Outcomes.{seen, eventAt, holding};
 ghost use Rattle.drillfile.specs.Headers.{headerOf, HeaderPost};
-
-// The number at a position of a file.
-pub fn read_number(file: &[u8], at: usize) -> Number
-    ensures { λ r. ⌜ numberOf r ≡ readNumber (now (file .entry)) at ⌝ }
-{
-    if file.len() <= at {
-        return Number::Spoilt(file.len());
-    }
-    let b = file[at];
-    if goes_on(b) {
-        return reading::second_group(file, at, low(b));
-    }
-    Number::Value(low(b), at + 1)
-}
-
-// The bytes of a number, in the shortest form.
-pub fn split(value: u32) -> Groups
-    ensures { λ r. ⌜ bytesOf r ≡ writeNumber value ⌝ }
-{
-    if model::NUMBER < value {
-        return Groups::TooLarge;
-    }
-    let high = rest(value);
-    if high == 0 {
-        return Groups::One(last(value));
-    }
-    let top = rest(high);
-    if top == 0 {
-        return Groups::Two(more(value), last(high));
-    }
-    Groups::Three(more(value), more(high), last(top))
-}
 
 // The event at a position. A value that can't be had ends the reading at once with its place.
 pub fn read_event(file: &[u8], from: Cursor) -> Got
@@ -92,13 +53,13 @@ pub fn write_event(out: &mut [u8], kind: u32, argument: u32) -> Written
     if model::NUMBER < argument {
         return answers::refused(answers::NO_SUCH, 0);
     }
-    let first = writing::width(kind);
-    let count = first + writing::width(argument);
+    let first = groups::width(kind);
+    let count = first + groups::width(argument);
     if out.len() < count {
         return answers::refused(answers::TOO_SHORT, 0);
     }
-    writing::put_number(out, 0, kind);
-    writing::put_number(out, first, argument);
+    groups::put_number(out, 0, kind);
+    groups::put_number(out, first, argument);
     Written {
         answer: answers::DONE,
         place: 0,

@@ -14,7 +14,7 @@ use Rattle.model.proofs.Had.{event-moves, unfueled}
 use Rattle.drillfile.specs.declared.answers.Cursor.{Cursor}
 use Rattle.drillfile.specs.declared.answers.Got.the-variants as got
 use Rattle.drillfile.specs.Outcomes.{seen, eventAt}
-use Rattle.drillfile.proofs.Told.{event-told, end-told, spoilt-told}
+use Rattle.reader.proofs.Told.{event-told, end-told, spoilt-told}
 use Rattle.replay.specs.declared.chunk.Stop.{Stop}
 use Rattle.replay.specs.declared.chunk.Gathered.{Gathered}
 use Rattle.replay.specs.Chunks.{chunk, Stand, behind, Gathers, Stopped, stoppedAt, GatherPost}

@@ -17,7 +17,7 @@ use Rattle.model.proofs.TextFits.{text-fits}
 use Rattle.drillfile.specs.declared.answers.Headed.{Headed}
 use Rattle.drillfile.specs.Headers.{HeaderPost}
 use Rattle.drillfile.proofs.Stores.{sets-front}
-use Rattle.drillfile.proofs.Told.{accepted-told, refused-told}
+use Rattle.reader.proofs.Told.{accepted-told, refused-told}
 use Rattle.replay.specs.Puts.{Put}
 use Rattle.replay.specs.Runs.{textOf, RunPre}
 use Rattle.replay.specs.Texts.{TextPost}

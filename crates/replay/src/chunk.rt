@@ -42,7 +42,7 @@ pub(crate) fn gather(
     let mut at = from;
     let mut i: usize = 0;
     while i < most {
-        match drillfile::reader::next_at(file, at) {
+        match reader::next_at(file, at) {
             Got::Event {
                 kind,
                 argument,

@@ -30,7 +30,7 @@ pub fn text(file: &[u8], out: &mut [u8; model::TEXT_MOST]) -> usize
     if model::FILE < file.len() {
         return lines::refused(out, 0, lines::SPOILT, model::FILE);
     }
-    let header = drillfile::reader::header_of(file);
+    let header = reader::header_of(file);
     let answer = header.answer;
     if answer != DONE {
         return lines::refused(out, 0, numbers::wide(answer), header.place);

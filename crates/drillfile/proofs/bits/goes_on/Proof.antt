@@ -1,9 +1,0 @@
-use Rattle.drillfile.proofs.Masks.{top-test}
-use Rattle.drillfile.proofs.bits.goes_on.Statement.{statement}
-use Rattle.drillfile.proofs.bits.goes_on.Tie as tie
-
-returns : tie.Need-returns
-returns c = top-test (c .args .b) (c .fits .b .fits)
-
-pub goes-on-spec : {M : Type 1} → statement M
-goes-on-spec = tie.close (tie.spec returns)

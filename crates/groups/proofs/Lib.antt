@@ -1,0 +1,5 @@
+pub mod Masks
+pub mod Joining
+pub mod Splitting
+pub mod Puts
+pub mod OneOutcome
