@@ -1,3 +1,4 @@
 pub mod Below
 pub mod Loops
-pub mod WellFormed
+pub mod Searches
+pub mod Ends

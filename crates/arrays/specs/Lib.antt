@@ -1,4 +1,3 @@
 pub mod View
 pub mod Flight
-pub mod Formed
 pub mod Told

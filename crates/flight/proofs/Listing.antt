@@ -22,9 +22,9 @@ use Rattle.arrays.specs.View.{packetAt}
 use Rattle.arrays.specs.Flight.{Slots, packets}
 use Rattle.arrays.specs.Told.{tells, left, flies}
 use Rattle.arrays.proofs.Below.{length-tab}
-use Rattle.moves.specs.Moves.{Removed}
-use Rattle.moves.proofs.Searches.{first-most}
-use Rattle.moves.proofs.Packets.{tab-snoc, lane-empty, lane-oldest, taken-out, off-snoc}
+use Rattle.packets.specs.Moves.{Removed}
+use Rattle.arrays.proofs.Searches.{first-most}
+use Rattle.packets.proofs.Packets.{tab-snoc, lane-empty, lane-oldest, taken-out, off-snoc}
 use Rattle.flight.specs.declared.asked.Asked.{Asked}
 use Rattle.flight.specs.Asked.{oldestAt, Listed}
 use Rattle.flight.proofs.Leaving.{absent, tells-send, tells-link, tells-lane}

@@ -2,11 +2,11 @@
 use crate::asked::Asked;
 use crate::asked::none;
 use arrays::Told;
+use arrays::wide;
 use model::FAIL;
 use model::Handled;
 use model::SEND;
 use model::Went;
-use moves::wide;
 use queues::ROOM;
 use queues::cut;
 use queues::make_room;

@@ -18,7 +18,7 @@ use Rattle.arrays.specs.View.{packetAt}
 use Rattle.arrays.specs.Flight.{packets}
 use Rattle.arrays.specs.Told.{tells}
 use Rattle.arrays.proofs.Below.{length-tab}
-use Rattle.arrays.proofs.WellFormed.{bits-unread, shown as checked}
+use Rattle.formed.proofs.WellFormed.{bits-unread, shown as checked}
 use Rattle.steps.specs.declared.tally.Step.{Step}
 use Rattle.steps.specs.Call.{call}
 use Rattle.steps.specs.Steps.{stateWith, outcomeOf, Still, Sound}

@@ -3,9 +3,9 @@ mod lengths;
 
 use arrays::SLOTS;
 use arrays::Tally;
-use arrays::formed;
 use flight::listed::ask;
 use flight::listed::carry;
+use formed::formed;
 use lengths::lengths;
 use model::Handled;
 use model::Went;

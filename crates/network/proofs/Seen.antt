@@ -4,7 +4,7 @@ use mathlib.Core.Bool.{Bool}
 use Rattle.model.specs.Formed.{wellFormed}
 use Rattle.arrays.specs.declared.Tally.{Tally}
 use Rattle.arrays.specs.Flight.{packets}
-use Rattle.arrays.proofs.WellFormed.{shown}
+use Rattle.formed.proofs.WellFormed.{shown}
 use Rattle.steps.specs.Steps.{stateWith}
 use Rattle.lent.specs.Lent.{Arrays}
 use Rattle.lent.proofs.InPlace.{of-check}

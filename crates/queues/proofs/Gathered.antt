@@ -17,7 +17,7 @@ use Rattle.model.proofs.Below.{look, tab-at}
 use Rattle.arrays.specs.View.{packetAt}
 use Rattle.arrays.specs.Flight.{Slots, packets}
 use Rattle.arrays.proofs.Below.{length-tab}
-use Rattle.moves.proofs.Packets.{tab-snoc, put-at}
+use Rattle.packets.proofs.Packets.{tab-snoc, put-at}
 use Rattle.queues.specs.Queue.{noLane, standing, flown, Roomy}
 use Rattle.queues.proofs.Standing.{standing-snoc}
 

@@ -17,7 +17,7 @@ use Rattle.model.specs.Fail.{off}
 use Rattle.model.proofs.Below.{look}
 use Rattle.arrays.specs.Flight.{packets}
 use Rattle.arrays.proofs.Below.{tab-same}
-use Rattle.moves.proofs.Packets.{tab-snoc, put-at, off-snoc}
+use Rattle.packets.proofs.Packets.{tab-snoc, put-at, off-snoc}
 use Rattle.queues.specs.Queue.{room, noLane, standing, flown, Roomy}
 
 -- one number is another, or it is not

@@ -1,5 +1,5 @@
 // The packets of a burst in queues by lane: nothing is searched, and nothing moves.
-use moves::wide;
+use arrays::wide;
 ghost use mathlib.Core.Path.{_≡_};
 ghost use mathlib.Core.Bool.{Bool};
 ghost use mathlib.Core.List.{List, [], _∷_, _++_};

@@ -2,7 +2,7 @@
 use crate::queue::NO_LANE;
 use crate::queue::ROOM;
 use arrays::SLOTS;
-use moves::wide;
+use arrays::wide;
 ghost use mathlib.Core.Path.{_≡_};
 ghost use Prim.Native.Nat.{ℕ, _≤_, _<_};
 ghost use lib.ListN.{length, getD};

@@ -18,11 +18,11 @@ use Rattle.model.proofs.Departure.{update-out}
 use Rattle.model.proofs.Below.{look, any-here, any-found, first-found}
 use Rattle.arrays.specs.declared.Tally.{Tally}
 use Rattle.arrays.specs.View.{used, netOf, countsOf, endsSeen}
-use Rattle.moves.specs.Turned.{Turned}
+use Rattle.turning.specs.Turned.{Turned}
 use Rattle.arrays.proofs.Below.{used-in, used-is, used-out}
 use Rattle.steps.specs.Steps.{stateWith}
-use Rattle.moves.proofs.Searches.{first-by-links}
-use Rattle.moves.proofs.Chains.{first-hit}
+use Rattle.arrays.proofs.Searches.{first-by-links}
+use Rattle.arrays.proofs.Searches.{first-hit}
 
 -- ---- a node has a way out exactly if the search finds one
 module _ (s : State) (v : ℕ) where

@@ -12,7 +12,7 @@ use Rattle.model.specs.Outcome.{Outcome, counted, gives, leaves, onward}
 use Rattle.arrays.specs.declared.Tally.{Tally}
 use Rattle.steps.specs.declared.tally.Step.{Step}
 use Rattle.arrays.specs.View.{netOf, endsOf, countsOf, stateOf, Chain}
-use Rattle.moves.specs.Turned.{Long}
+use Rattle.turning.specs.Turned.{Long}
 
 -- the record that the arrays show, with some packets in flight
 abbrev pub stateWith : List ℕ → List Bool → List Bool → List Bool → List Bool → List Bool → List ℕ → ℕ → ℕ → ℕ → List Packet → Tally → State

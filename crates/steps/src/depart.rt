@@ -1,6 +1,6 @@
 // The way of a packet that leaves a node: the lowest Out end, after a turn where there is none.
-use moves::turn;
-use moves::way;
+use turning::turn;
+use ways::way;
 ghost use mathlib.Core.Path.{_≡_};
 ghost use mathlib.Core.Bool.{Bool, true};
 ghost use mathlib.Core.List.{List};

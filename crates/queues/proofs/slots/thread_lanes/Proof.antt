@@ -12,7 +12,7 @@ use Rattle.queues.proofs.slots.thread_lanes.Statement.{statement}
 use Rattle.queues.proofs.slots.thread_lanes.Tie as tie
 use Rattle.queues.proofs.slots.thread_lanes.Reads as reads
 use Rattle.queues.proofs.slots.thread_lanes.Lts as lts
-use Rattle.moves.proofs.wide.Reads as wide-reads
+use Rattle.arrays.proofs.wide.Reads as wide-reads
 
 abbrev Inv-loop : tie.InvT-loop
 Inv-loop lane used first₀ last₀ after₀ i₀ first last after i = (i ≤ used) × Threading lane used i first last after

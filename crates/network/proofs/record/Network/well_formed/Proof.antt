@@ -2,7 +2,7 @@
 use mathlib.Core.Path.{ap, _∙_}
 use Rattle.model.specs.Formed.{wellFormed}
 use Rattle.arrays.specs.declared.Tally.{Tally}
-use Rattle.arrays.proofs.WellFormed.{shown}
+use Rattle.formed.proofs.WellFormed.{shown}
 use borrow.Author.Needs.{needs}
 use Rattle.network.proofs.Seen.{of-view}
 use Rattle.network.proofs.record.Network.well_formed.Statement.{statement}
