@@ -10,10 +10,10 @@ use Rattle.model.specs.Formed.{wellFormed}
 use Rattle.arrays.specs.declared.Tally.{Tally}
 use Rattle.arrays.specs.Told.{flies}
 use Rattle.queues.specs.Queue.{flown, Roomy, Queued}
-use Rattle.steps.specs.declared.tally.Step.{Step}
+use Rattle.departs.specs.declared.tally.Step.{Step}
 use Rattle.steps.specs.Call.{call}
-use Rattle.steps.specs.Steps.{stateWith, outcomeOf, Whole, Sound}
-use Rattle.steps.proofs.Sounds.{sound-if, few-fly}
+use Rattle.departs.specs.Steps.{stateWith, outcomeOf, Whole, Sound}
+use Rattle.departs.proofs.Sounds.{sound-if, few-fly}
 use Rattle.bursts.specs.Bursts.{packetCode, wayCode}
 use Rattle.bursts.proofs.Bursts.{calls-keep, Ran, ran-more}
 

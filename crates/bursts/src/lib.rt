@@ -18,7 +18,7 @@ ghost use Rattle.model.specs.Answers as answers;
 ghost use Rattle.model.specs.Limits.{endsMost, eventsMost};
 ghost use Rattle.model.specs.Formed.{wellFormed};
 ghost use Rattle.queues.specs.Queue.{room, flown, Roomy, Queued};
-ghost use Rattle.steps.specs.Steps.{stateWith, Chained, Whole};
+ghost use Rattle.departs.specs.Steps.{stateWith, Chained, Whole};
 ghost use Rattle.bursts.specs.Bursts.{calls, packetCode, wayCode, least, filled, Lists};
 
 // The answer of a record that is not well formed.

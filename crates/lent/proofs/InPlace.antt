@@ -19,11 +19,11 @@ use Rattle.arrays.specs.Flight.{packets}
 use Rattle.arrays.specs.Told.{tells}
 use Rattle.arrays.proofs.Below.{length-tab}
 use Rattle.formed.proofs.WellFormed.{bits-unread, shown as checked}
-use Rattle.steps.specs.declared.tally.Step.{Step}
+use Rattle.departs.specs.declared.tally.Step.{Step}
 use Rattle.steps.specs.Call.{call}
-use Rattle.steps.specs.Steps.{stateWith, outcomeOf, Still, Sound}
+use Rattle.departs.specs.Steps.{stateWith, outcomeOf, Still, Sound}
 use Rattle.steps.proofs.Calls.{handed-back, call-keeps}
-use Rattle.steps.proofs.Sounds.{sizes-are, sound-if, few-fly}
+use Rattle.departs.proofs.Sounds.{sizes-are, sound-if, few-fly}
 use Rattle.steps.proofs.Tellings.{tells-there, tells-gone}
 use Rattle.lent.specs.Lent.{Arrays, shown, LentPost}
 

@@ -9,8 +9,8 @@ use borrow.Fn.Kinds.{Dens, endedOf}
 use Rattle.model.specs.Answers as answers
 use Rattle.model.specs.Outcome.{Outcome}
 use Rattle.arrays.specs.declared.Tally.{Tally}
-use Rattle.steps.specs.declared.tally.Step.{Step}
-use Rattle.steps.specs.Steps.{outcomeOf}
+use Rattle.departs.specs.declared.tally.Step.{Step}
+use Rattle.departs.specs.Steps.{outcomeOf}
 use Rattle.lent.specs.Lent.{Arrays, shown, LentPost}
 use Rattle.lent.proofs.apply.Kinds as apply-kinds
 use Rattle.lent.proofs.apply.Reads as apply

@@ -7,9 +7,9 @@ use Rattle.model.specs.Answers as answers
 use Rattle.model.specs.State.{State}
 use Rattle.arrays.specs.declared.Tally.{Tally}
 use Rattle.arrays.specs.Flight.{packets}
-use Rattle.steps.specs.declared.tally.Step.{Step}
+use Rattle.departs.specs.declared.tally.Step.{Step}
 use Rattle.steps.specs.Call.{call}
-use Rattle.steps.specs.Steps.{stateWith, outcomeOf}
+use Rattle.departs.specs.Steps.{stateWith, outcomeOf}
 
 -- all that an event can change, the counts apart
 pub record Arrays : Type 0 where

@@ -3,7 +3,7 @@ use arrays::SLOTS;
 ghost use mathlib.Core.Path.{_≡_};
 ghost use lib.ListN.{length};
 ghost use Rattle.arrays.specs.Flight.{Slots};
-ghost use Rattle.steps.specs.Steps.{Whole};
+ghost use Rattle.departs.specs.Steps.{Whole};
 
 fn slices<'a>(
     live: &'a [bool],

@@ -12,8 +12,8 @@ use Rattle.arrays.specs.View.{packetAt}
 use Rattle.arrays.specs.Flight.{packets}
 use Rattle.queues.specs.Queue.{standing, flown}
 use Rattle.queues.proofs.Gathered.{standing-all}
-use Rattle.steps.specs.Steps.{stateWith}
-use Rattle.steps.proofs.Sounds.{few-fly}
+use Rattle.departs.specs.Steps.{stateWith}
+use Rattle.departs.proofs.Sounds.{few-fly}
 use Rattle.lent.proofs.InPlace.{lanes-named as on-lanes}
 use Rattle.network.specs.declared.record.Network.{Network}
 use Rattle.network.specs.View.{tallyOf, view}

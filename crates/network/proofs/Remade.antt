@@ -2,7 +2,7 @@
 use Prim.Native.Nat.{ℕ}
 use mathlib.Core.Path.{_≡_}
 use Rattle.arrays.specs.declared.Tally.{Tally}
-use Rattle.steps.specs.declared.tally.Step.{Step}
+use Rattle.departs.specs.declared.tally.Step.{Step}
 use Rattle.steps.specs.Call.{call}
 use Rattle.lent.specs.Lent.{Arrays, LentPost}
 use Rattle.network.specs.declared.record.Network.{Network}

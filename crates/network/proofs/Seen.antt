@@ -5,7 +5,7 @@ use Rattle.model.specs.Formed.{wellFormed}
 use Rattle.arrays.specs.declared.Tally.{Tally}
 use Rattle.arrays.specs.Flight.{packets}
 use Rattle.formed.proofs.WellFormed.{shown}
-use Rattle.steps.specs.Steps.{stateWith}
+use Rattle.departs.specs.Steps.{stateWith}
 use Rattle.lent.specs.Lent.{Arrays}
 use Rattle.lent.proofs.InPlace.{of-check}
 use Rattle.network.specs.declared.record.Network.{Network}

@@ -10,7 +10,7 @@ use Rattle.model.specs.Answers as answers
 use Rattle.model.specs.Events.{Event}
 use Rattle.model.specs.Events as events
 use Rattle.model.specs.File.{ofKind}
-use Rattle.steps.specs.declared.tally.Step.{Step}
+use Rattle.departs.specs.declared.tally.Step.{Step}
 use Rattle.lent.specs.Lent.{Arrays, LentPost}
 use Rattle.network.specs.declared.opening.Opened.{Opened}
 use Rattle.network.specs.declared.record.Network.{Network}

@@ -1,9 +1,3 @@
-pub mod Tallies
-pub mod Ways
-pub mod Sends
 pub mod Cuts
 pub mod Calls
 pub mod Tellings
-pub mod OffLanes
-pub mod Deliveries
-pub mod Sounds

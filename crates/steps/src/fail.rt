@@ -1,11 +1,11 @@
 // Fail a link.
-use crate::answers::DONE;
-use crate::answers::LINK_DOWN;
-use crate::answers::NO_SUCH;
-use crate::tally::Step;
-use crate::tally::bare;
-use crate::tally::counted;
 use arrays::Tally;
+use departs::DONE;
+use departs::LINK_DOWN;
+use departs::NO_SUCH;
+use departs::Step;
+use departs::bare;
+use departs::counted;
 ghost use mathlib.Core.Path.{_≡_};
 ghost use mathlib.Core.Bool.{Bool, true};
 ghost use mathlib.Core.List.{List};
@@ -16,7 +16,7 @@ ghost use Rattle.model.specs.State.{Packet};
 ghost use Rattle.model.specs.Formed.{wellFormed};
 ghost use Rattle.model.specs.Fail.{off, failOf};
 ghost use Rattle.arrays.specs.Told.{cleared, passed};
-ghost use Rattle.steps.specs.Steps.{stateWith, outcomeOf, Fair};
+ghost use Rattle.departs.specs.Steps.{stateWith, outcomeOf, Fair};
 
 // So many packets are on the link, and gone with it.
 pub(crate) fn fail_step(

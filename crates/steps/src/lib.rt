@@ -1,28 +1,21 @@
 // One event on the arrays of a record that was checked: the part that moves arrows.
 // Public for `network` alone, so `step` may require what the check has told: docs/EXCEPTIONS.md.
-mod answers;
-mod deliver;
-mod depart;
 mod fail;
-mod lanes;
-mod lose;
-mod send;
-mod tally;
 
-use answers::NO_MORE_EVENTS;
-use answers::NO_SUCH;
 use arrays::Tally;
 use arrays::Told;
-use deliver::deliver_step;
+use arrivals::deliver_step;
+use arrivals::lose_step;
+use departs::NO_MORE_EVENTS;
+use departs::NO_SUCH;
+pub use departs::Step;
+use departs::bare;
 use fail::fail_step;
-use lose::lose_step;
 use model::DELIVER;
 use model::FAIL;
 use model::LOSE;
 use model::SEND;
-use send::send_step;
-pub use tally::Step;
-use tally::bare;
+use sends::send_step;
 ghost use mathlib.Core.Path.{_≡_};
 ghost use mathlib.Core.Bool.{Bool, true};
 ghost use mathlib.Core.List.{List};
@@ -32,7 +25,7 @@ ghost use Rattle.model.specs.State.{Packet};
 ghost use Rattle.model.specs.Formed.{wellFormed};
 ghost use Rattle.steps.specs.Call.{call};
 ghost use Rattle.arrays.specs.Told.{tells, flies};
-ghost use Rattle.steps.specs.Steps.{stateWith, outcomeOf, Still, Chained, Whole, Sound};
+ghost use Rattle.departs.specs.Steps.{stateWith, outcomeOf, Still, Chained, Whole, Sound};
 
 // One event, from what the packets in flight tell it; the caller moves these as the answer says.
 pub fn step<'a>(

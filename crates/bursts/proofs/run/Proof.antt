@@ -14,7 +14,7 @@ use Rattle.arrays.specs.declared.Told.{Told}
 use Rattle.arrays.specs.Told.{flies, tells}
 use Rattle.queues.specs.Queue.{flown}
 use Rattle.steps.specs.Call.{call}
-use Rattle.steps.specs.Steps.{stateWith, outcomeOf}
+use Rattle.departs.specs.Steps.{stateWith, outcomeOf}
 use Rattle.steps.proofs.Calls.{call-lane}
 use Rattle.steps.proofs.Tellings.{tells-there, tells-gone}
 use Rattle.bursts.specs.Bursts.{calls, Lists}

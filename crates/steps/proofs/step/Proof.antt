@@ -12,10 +12,10 @@ use Rattle.model.specs.declared.Went.the-variants as went
 use Rattle.model.specs.State.{Packet, State}
 use Rattle.model.specs.Outcome.{Outcome}
 use Rattle.arrays.specs.Told.{flies}
-use Rattle.steps.specs.declared.tally.Step.{Step}
+use Rattle.departs.specs.declared.tally.Step.{Step}
 use Rattle.steps.specs.Call.{call}
-use Rattle.steps.specs.Steps.{stateWith, outcomeOf}
-use Rattle.steps.proofs.Tallies.{still}
+use Rattle.departs.specs.Steps.{stateWith, outcomeOf}
+use Rattle.departs.proofs.Tallies.{still}
 use Rattle.steps.proofs.Tellings.{told-deliver, told-lose, told-fail, flies-send, flies-deliver, flies-lose, flies-fail, flies-not}
 use Rattle.steps.proofs.Calls.{call-send, call-deliver, call-lose, call-fail, call-no-more, call-unknown}
 use Rattle.steps.proofs.step.Statement.{statement}

@@ -18,9 +18,9 @@ use Rattle.arrays.specs.declared.Tally.{Tally}
 use Rattle.arrays.specs.View.{netOf, countsOf}
 use Rattle.arrays.specs.Told.{passed, cleared}
 use Rattle.arrays.proofs.Below.{used-in}
-use Rattle.steps.specs.declared.tally.Step.{Step}
-use Rattle.steps.specs.Steps.{stateWith, outcomeOf}
-use Rattle.steps.proofs.Tallies.{counted-is, tally-is, answer-is}
+use Rattle.departs.specs.declared.tally.Step.{Step}
+use Rattle.departs.specs.Steps.{stateWith, outcomeOf}
+use Rattle.departs.proofs.Tallies.{counted-is, tally-is, answer-is}
 use Rattle.steps.proofs.Cuts.{fail-no-such, fail-down, fail-cuts, cut-is}
 use Rattle.steps.proofs.fail.fail_step.Statement.{statement}
 use Rattle.steps.proofs.fail.fail_step.Tie as tie

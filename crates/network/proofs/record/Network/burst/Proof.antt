@@ -17,8 +17,8 @@ use Rattle.arrays.specs.View.{packetAt}
 use Rattle.arrays.specs.Flight.{packets, Slots}
 use Rattle.arrays.proofs.Below.{length-tab}
 use Rattle.queues.specs.Queue.{Queued}
-use Rattle.steps.specs.Steps.{stateWith, Whole, Sound}
-use Rattle.steps.proofs.Sounds.{sound-if}
+use Rattle.departs.specs.Steps.{stateWith, Whole, Sound}
+use Rattle.departs.proofs.Sounds.{sound-if}
 use Rattle.network.specs.declared.record.Network.{Network}
 use Rattle.network.specs.View.{view, tallyOf}
 use Rattle.bursts.specs.Bursts.{calls}

@@ -1,0 +1,2 @@
+pub mod OffLanes
+pub mod Deliveries
