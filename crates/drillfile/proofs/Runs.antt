@@ -12,7 +12,7 @@ use Rattle.model.specs.Number.{numberBytes}
 use Rattle.model.specs.Writing.{numbersBytes}
 use Rattle.model.proofs.Numbers.{number-short}
 use Rattle.model.proofs.Format.{numbers-cons, numbers-nil, numbers-length}
-use Rattle.drillfile.proofs.Stores.{sets-append}
+use Rattle.groups.proofs.Stores.{sets-append}
 
 pub numbers-short : (ns : List ℕ) → length (numbersBytes ns) ≤ groupsMost * length ns
 numbers-short [] = omega (arith, ap length numbers-nil)

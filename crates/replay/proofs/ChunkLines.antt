@@ -29,10 +29,11 @@ use Rattle.steps.specs.Call.{made, call}
 use Rattle.bursts.specs.Bursts.{calls, callAt, packetCode, wayCode, least, filled, Lists}
 use Rattle.arrays.proofs.Below.{length-tab}
 use Rattle.bursts.proofs.Bursts.{calls-keep}
-use Rattle.replay.specs.Puts.{Room, Put}
-use Rattle.replay.specs.Digits.{joined}
-use Rattle.replay.specs.Codes.{packetWord, wayWord, codeLine, codeLines, callLines}
-use Rattle.replay.proofs.Pending.{Pending, say, room, step}
+use Rattle.letters.specs.Puts.{Room, Put}
+use Rattle.letters.specs.Digits.{joined}
+use Rattle.lines.specs.Codes.{packetWord, wayWord, codeLine}
+use Rattle.replay.specs.ChunkLines.{codeLines, callLines}
+use Rattle.letters.proofs.Pending.{Pending, say, room, step}
 
 -- ---- what a code says
 packet-said : (h : Handled) → ((n : ℕ) → h ≡ handled.Packet n → n < eventsMost) → packetWord (packetCode h) ≡ handledWord h

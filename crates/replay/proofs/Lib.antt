@@ -1,11 +1,3 @@
-pub mod Pending
-pub mod Decimals
-pub mod Over
-pub mod DigitRows
-pub mod Halves
-pub mod LineParts
-pub mod CodeWords
-pub mod LastLines
 pub mod Chunks
 pub mod ChunkLines
 pub mod Tails

@@ -11,7 +11,7 @@ use Rattle.network.specs.declared.record.Burst.{Burst}
 use Rattle.network.specs.View.{view}
 use Rattle.bursts.specs.Bursts.{calls}
 use Rattle.network.specs.Calls.{BurstPost}
-use Rattle.replay.specs.Codes.{codeLines, callLines}
+use Rattle.replay.specs.ChunkLines.{codeLines, callLines}
 use Rattle.replay.specs.Chunks.{chunk}
 use Rattle.replay.proofs.ChunkLines.{lines-are, shortest-first}
 

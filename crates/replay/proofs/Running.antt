@@ -18,13 +18,13 @@ use Rattle.network.specs.View.{view}
 use Rattle.bursts.specs.Bursts.{calls}
 use Rattle.bursts.proofs.Bursts.{calls-keep}
 use Rattle.replay.specs.declared.play.Played.{Played}
-use Rattle.replay.specs.Puts.{Room}
-use Rattle.replay.specs.Lines.{endingOf}
-use Rattle.replay.specs.Codes.{callLines}
+use Rattle.letters.specs.Puts.{Room}
+use Rattle.lines.specs.Lines.{endingOf}
+use Rattle.replay.specs.ChunkLines.{callLines}
 use Rattle.replay.specs.Chunks.{Gathers}
 use Rattle.replay.specs.Plays.{PlayPost}
 use Rattle.replay.specs.Runs.{textOf, RunPre}
-use Rattle.replay.proofs.Pending.{Pending, begin, say, room, step}
+use Rattle.letters.proofs.Pending.{Pending, begin, say, room, step}
 use Rattle.replay.proofs.Chunks.{stand-take}
 use Rattle.replay.proofs.Tails.{tail, tail-whole, tail-end, tail-spoilt, tail-chunk}
 

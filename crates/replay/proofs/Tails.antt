@@ -15,8 +15,8 @@ use Rattle.model.specs.Text.{eventLine, eventLines, spoiltLine, totalLine, turn
 use Rattle.model.proofs.Format.{of-kind}
 use Rattle.steps.specs.Call.{made, call}
 use Rattle.bursts.specs.Bursts.{calls, callAt}
-use Rattle.replay.specs.Lines.{endingOf}
-use Rattle.replay.specs.Codes.{callLines}
+use Rattle.lines.specs.Lines.{endingOf}
+use Rattle.replay.specs.ChunkLines.{callLines}
 use Rattle.replay.specs.Chunks.{Stand, behind}
 
 unfoldable pub tail : ℕ → State → Reading → List ℕ

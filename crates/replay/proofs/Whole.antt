@@ -16,12 +16,12 @@ use Rattle.model.proofs.Had.{header-moves}
 use Rattle.model.proofs.TextFits.{text-fits}
 use Rattle.drillfile.specs.declared.answers.Headed.{Headed}
 use Rattle.drillfile.specs.Headers.{HeaderPost}
-use Rattle.drillfile.proofs.Stores.{sets-front}
+use Rattle.groups.proofs.Stores.{sets-front}
 use Rattle.reader.proofs.Told.{accepted-told, refused-told}
-use Rattle.replay.specs.Puts.{Put}
+use Rattle.letters.specs.Puts.{Put}
 use Rattle.replay.specs.Runs.{textOf, RunPre}
 use Rattle.replay.specs.Texts.{TextPost}
-use Rattle.replay.proofs.Pending.{Pending, begin, say, room-all}
+use Rattle.letters.proofs.Pending.{Pending, begin, say, room-all}
 
 module _ (file : List ℕ) where
   too-long : fileMost < length file → drillOutput file ≡ refusedLine answers.spoilt fileMost

@@ -6,7 +6,7 @@ use mathlib.Core.Option.{none, some}
 use lib.ListN.{length, getD}
 use Rattle.model.specs.Events.{Event}
 use Rattle.model.specs.File.{kind, argument, Reading, readEvents}
-use Rattle.replay.specs.Digits.{thousand}
+use Rattle.letters.specs.Digits.{thousand}
 use Rattle.replay.specs.declared.chunk.Stop.{Stop}
 use Rattle.replay.specs.declared.chunk.Stop.the-variants.{More, End, Spoilt}
 use Rattle.replay.specs.declared.chunk.Gathered.{Gathered}

@@ -1,7 +1,4 @@
-pub mod Puts
-pub mod Digits
-pub mod Codes
-pub mod Lines
+pub mod ChunkLines
 pub mod Chunks
 pub mod Plays
 pub mod Runs

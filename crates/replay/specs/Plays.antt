@@ -9,9 +9,9 @@ use Rattle.network.specs.declared.record.Network.{Network}
 use Rattle.network.specs.View.{view}
 use Rattle.bursts.specs.Bursts.{calls}
 use Rattle.replay.specs.declared.play.Played.{Played}
-use Rattle.replay.specs.Puts.{Room, Put}
-use Rattle.replay.specs.Codes.{callLines}
-use Rattle.replay.specs.Digits.{thousand, joined, digitRows}
+use Rattle.letters.specs.Puts.{Room, Put}
+use Rattle.replay.specs.ChunkLines.{callLines}
+use Rattle.letters.specs.Digits.{thousand, joined, digitRows}
 
 pub record PlayPre (n : Network) (table kinds arguments : List ℕ) (thousands rest : ℕ) (out : List ℕ) (at : ℕ) : Type 0 where
   pub formed : wellFormed (view n) ≡ true

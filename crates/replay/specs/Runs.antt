@@ -10,7 +10,7 @@ use Rattle.model.specs.File.{readEvents}
 use Rattle.model.specs.Text.{drillText}
 use Rattle.network.specs.declared.record.Network.{Network}
 use Rattle.network.specs.View.{view}
-use Rattle.replay.specs.Puts.{Room}
+use Rattle.letters.specs.Puts.{Room}
 
 -- the text of the drill from a record and a position
 abbrev pub textOf : List ℕ → ℕ → Network → List ℕ

@@ -1,6 +1,6 @@
 // Events read some at a time, so that the record's check is paid once for all of them.
-use crate::table::THOUSAND;
 use drillfile::Got;
+use letters::THOUSAND;
 ghost use mathlib.Core.Path.{_≡_};
 ghost use Prim.Native.Nat.{_≤_};
 ghost use lib.ListN.{length};

@@ -1,13 +1,7 @@
 // A drill file in, the program's whole text out.
 mod chunk;
-mod digits;
-mod lines;
-mod numbers;
-mod parts;
 mod play;
 mod run;
-mod table;
-mod words;
 
 ghost use mathlib.Core.Path.{_≡_};
 ghost use lib.ListN.{length};
@@ -33,9 +27,9 @@ pub fn text(file: &[u8], out: &mut [u8; model::TEXT_MOST]) -> usize
     let header = reader::header_of(file);
     let answer = header.answer;
     if answer != DONE {
-        return lines::refused(out, 0, numbers::wide(answer), header.place);
+        return lines::refused(out, 0, letters::wide(answer), header.place);
     }
     let next = header.next;
-    let table = table::rows();
+    let table = letters::rows();
     run::run(file, next.at, header.network, &table, out)
 }

@@ -1,13 +1,13 @@
 // A chunk's events, run by one burst and written line by line.
 use crate::chunk::CHUNK;
-use crate::lines::event;
-use crate::table::TABLE;
+use letters::TABLE;
+use lines::event;
 use network::Network;
 ghost use mathlib.Core.Path.{_≡_};
 ghost use Prim.Native.Nat.{_+_, _≤_, _<_};
-ghost use Rattle.replay.specs.Puts.{Room, Put};
-ghost use Rattle.replay.specs.Digits.{thousand, joined, digitRows};
-ghost use Rattle.replay.specs.Codes.{codeLines};
+ghost use Rattle.letters.specs.Puts.{Room, Put};
+ghost use Rattle.letters.specs.Digits.{thousand, joined, digitRows};
+ghost use Rattle.replay.specs.ChunkLines.{codeLines};
 ghost use Rattle.replay.specs.Plays.{PlayPre, PlayPost};
 
 // The record after a chunk, and the position after its lines.

@@ -2,14 +2,14 @@
 use crate::chunk::CHUNK;
 use crate::chunk::Stop;
 use crate::chunk::gather;
-use crate::lines::ending;
-use crate::lines::spoilt;
 use crate::play::play;
-use crate::table::TABLE;
+use letters::TABLE;
+use lines::ending;
+use lines::spoilt;
 use network::Network;
 ghost use mathlib.Core.Path.{_≡_};
-ghost use Rattle.replay.specs.Puts.{Put};
-ghost use Rattle.replay.specs.Digits.{digitRows};
+ghost use Rattle.letters.specs.Puts.{Put};
+ghost use Rattle.letters.specs.Digits.{digitRows};
 ghost use Rattle.replay.specs.Runs.{textOf, RunPre};
 
 // The text of the events from a position on, from a record just opened.

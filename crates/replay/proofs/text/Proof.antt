@@ -1,7 +1,7 @@
 -- A file too long, a refused header, or the drill. Assumes nothing.
 use borrow.Author.Needs.{needs}
 use denote.Ref.{now}
-use Rattle.replay.proofs.Pending.{room-all, last}
+use Rattle.letters.proofs.Pending.{room-all, last}
 use Rattle.replay.proofs.Whole.{text-put, long, no-header, header, runs}
 use Rattle.replay.proofs.text.Statement.{statement}
 use Rattle.replay.proofs.text.Tie as tie

@@ -3,9 +3,9 @@ use Prim.Native.Nat.{_+_, _-_, _≤_}
 use native.Mathlib.Omega.{arith}
 use denote.Ref.{now}
 use borrow.Author.Needs.{needs}
-use Rattle.replay.specs.Digits.{joined}
-use Rattle.replay.specs.Codes.{codeLines}
-use Rattle.replay.proofs.Pending.{Pending, begin, say, finish}
+use Rattle.letters.specs.Digits.{joined}
+use Rattle.replay.specs.ChunkLines.{codeLines}
+use Rattle.letters.proofs.Pending.{Pending, begin, say, finish}
 use Rattle.replay.proofs.ChunkLines.{lines-none, lines-all, room-line, step-line}
 use Rattle.replay.proofs.play.lines.Statement.{statement}
 use Rattle.replay.proofs.play.lines.Tie as tie

@@ -1,8 +1,8 @@
 -- The burst, then its lines. Assumes nothing.
 use native.Mathlib.Omega.{arith}
 use borrow.Author.Needs.{needs}
-use Rattle.replay.specs.Digits.{joined}
-use Rattle.replay.proofs.Pending.{begin, say, room-all, last}
+use Rattle.letters.specs.Digits.{joined}
+use Rattle.letters.proofs.Pending.{begin, say, room-all, last}
 use Rattle.replay.proofs.Played.{played-state, played-lines}
 use Rattle.replay.proofs.play.play.Statement.{statement}
 use Rattle.replay.proofs.play.play.Tie as tie

@@ -5,10 +5,10 @@ use mathlib.Core.Path.{_≡_, subst}
 use lib.ListN.{length}
 use denote.Ref.{now}
 use borrow.Author.Needs.{needs}
-use Rattle.replay.specs.Digits.{joined}
+use Rattle.letters.specs.Digits.{joined}
 use Rattle.replay.specs.Chunks.{chunk, Stopped}
 use Rattle.replay.specs.Runs.{textOf}
-use Rattle.replay.proofs.Pending.{room-all, last}
+use Rattle.letters.proofs.Pending.{room-all, last}
 use Rattle.replay.proofs.Running.{Running, starts, recount, kinds-lent, arguments-lent, few-kinds, as-many, ends, spoils, few-nodes, within, chunk-room, goes-on}
 use Rattle.replay.proofs.run.run.Statement.{statement}
 use Rattle.replay.proofs.run.run.Tie as tie

@@ -1,0 +1,3 @@
+pub mod LineParts
+pub mod CodeWords
+pub mod LastLines
