@@ -45,7 +45,7 @@ const STATED: [(&str, &str); 11] = [
     ("model::limits::NODES", "model::limits::NODE"),
 ];
 const MUST_FAIL: [(&str, &str); 2] = [
-    ("moves/newest_taken", "model/newest_taken"),
+    ("packets/newest_taken", "model/newest_taken"),
     ("model/newest_lost", "newest_lost"),
 ];
 const RUN: [(&str, &str); 8] = [
@@ -87,11 +87,11 @@ fn a_wrong_name_is_told_with_its_line() {
 
 #[test]
 fn an_edit_in_no_row_is_told() {
-    let page = page().replace("`network/ring_missed`", "");
+    let page = page().replace("`pairs/ring_missed`", "");
     let faults = promises::faults(&tree(), &page);
     assert!(faults
         .iter()
-        .any(|fault| fault.ends_with("the edit `network/ring_missed` is in no row")));
+        .any(|fault| fault.ends_with("the edit `pairs/ring_missed` is in no row")));
 }
 
 #[test]
@@ -110,11 +110,11 @@ fn the_steps_and_crates_are_those_of_the_tree() {
         faults(&page.replace("`steps::step`", "`steps::steps`")).len(),
         1
     );
-    let renamed = page.replace("| moves | ", "| walks | ");
+    let renamed = page.replace("| turning | ", "| walks | ");
     assert_eq!(
         faults(&renamed),
         [
-            "docs/ARCHITECTURE.md: the crate moves is in no row",
+            "docs/ARCHITECTURE.md: the crate turning is in no row",
             "docs/ARCHITECTURE.md: walks is no crate"
         ]
     );
@@ -126,10 +126,10 @@ fn the_exceptions_are_those_of_the_code() {
     let faults = |page: &str| exceptions::faults(&tree(), page);
     assert_eq!(faults(&page), Vec::<String>::new());
     assert_eq!(
-        faults(&page.replace("`moves::other`", "`moves::wide`")),
+        faults(&page.replace("`arrays::other`", "`arrays::wide`")),
         [
-            "docs/EXCEPTIONS.md: `moves::other` requires something",
-            "docs/EXCEPTIONS.md: `moves::wide` requires nothing"
+            "docs/EXCEPTIONS.md: `arrays::other` requires something",
+            "docs/EXCEPTIONS.md: `arrays::wide` requires nothing"
         ]
     );
 }
