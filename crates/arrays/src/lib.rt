@@ -1,6 +1,9 @@
 // The arrays of a record: what they show a reader, and the numbers that stand in them.
+mod asked;
 mod number;
 
+pub use asked::Asked;
+pub use asked::none;
 pub use number::other;
 pub use number::wide;
 

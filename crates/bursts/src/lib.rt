@@ -1,11 +1,11 @@
 // Events one after the other, on the arrays of a record that was checked once.
 // Public for `network` alone, so `run` may require what the check has told: docs/EXCEPTIONS.md.
 use arrays::Tally;
-use flight::queued::ask;
-use flight::queued::carry;
-use flight::queued::room_for_one;
 use model::Handled;
 use model::Went;
+use queued::ask;
+use queued::carry;
+use queued::room_for_one;
 use queues::ROOM;
 use steps::Step;
 use steps::step;

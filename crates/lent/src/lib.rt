@@ -3,10 +3,10 @@ mod lengths;
 
 use arrays::SLOTS;
 use arrays::Tally;
-use flight::listed::ask;
-use flight::listed::carry;
 use formed::formed;
 use lengths::lengths;
+use listed::ask;
+use listed::carry;
 use model::Handled;
 use model::Went;
 pub use steps::Step;

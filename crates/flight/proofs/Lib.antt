@@ -1,3 +1,0 @@
-pub mod Leaving
-pub mod Listing
-pub mod Queuing
