@@ -4,12 +4,12 @@ use crate::file::cut;
 use crate::file::empty;
 use crate::file::with_byte;
 use crate::file::with_number;
-use crate::number::least;
-use crate::number::less_one;
-use crate::number::wide;
-use crate::number::wide8;
 use crate::read::file_line;
 use crate::read::header_line;
+use sums::least;
+use sums::less_one;
+use sums::wide;
+use sums::wide8;
 
 // Ten numbers a file: how many bytes it has, and nine, of which these are the first.
 const FILES: [u8; 140] = [

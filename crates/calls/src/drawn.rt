@@ -1,13 +1,13 @@
 // A drawn opening: arrows along a drawn order, so that no walk closes, and then trouble.
-use crate::draw::draw;
-use crate::number::double;
-use crate::number::least;
-use crate::number::less_one;
 use crate::number::most;
-use crate::number::narrow;
-use crate::number::plus;
-use crate::number::rest;
 use crate::rows::LIST;
+use sums::double;
+use sums::draw;
+use sums::least;
+use sums::less_one;
+use sums::narrow;
+use sums::plus;
+use sums::rest;
 
 pub(crate) struct Case {
     pub nodes: usize,

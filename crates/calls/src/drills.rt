@@ -1,5 +1,4 @@
 // Part `drills`: whole drills written and read back, then damaged and read as far as they go.
-use crate::draw::draw;
 use crate::drawn::drawn;
 use crate::file::File;
 use crate::file::ROOM;
@@ -7,12 +6,7 @@ use crate::file::blank;
 use crate::file::changed;
 use crate::file::cut;
 use crate::file::with_byte;
-use crate::number::least;
-use crate::number::less_one;
-use crate::number::narrow;
 use crate::number::narrow8;
-use crate::number::plus;
-use crate::number::wide8;
 use crate::read::After;
 use crate::read::event_line;
 use crate::read::file_line;
@@ -20,6 +14,12 @@ use crate::read::header_line;
 use crate::readings::argument;
 use crate::writings::case_into;
 use crate::writings::event_into;
+use sums::draw;
+use sums::least;
+use sums::less_one;
+use sums::narrow;
+use sums::plus;
+use sums::wide8;
 
 // An event behind what stands, and the length of all.
 fn with_event(x: &mut usize, part: &mut [u8], length: usize) -> usize {

@@ -1,8 +1,8 @@
 // The bytes of a file, or of a part to be lent.
-use crate::number::least;
-use crate::number::narrow;
 use crate::number::narrow8;
 use drillfile::Groups;
+use sums::least;
+use sums::narrow;
 
 // More than any file or part of the calls has.
 pub(crate) const ROOM: usize = 700;

@@ -1,18 +1,18 @@
 // Drawn headers of part `readings`, and then trouble.
-use crate::draw::draw;
 use crate::file::File;
 use crate::file::changed;
 use crate::file::cut;
 use crate::file::empty;
 use crate::file::with_byte;
-use crate::number::HUGE;
 use crate::number::less;
-use crate::number::less_one;
 use crate::number::narrow8;
-use crate::number::plus;
 use crate::read::file_line;
 use crate::read::header_line;
 use crate::readings::NUMBER_BYTES;
+use sums::HUGE;
+use sums::draw;
+use sums::less_one;
+use sums::plus;
 
 fn loose_bytes(x: &mut usize, count: usize) -> File {
     let mut f = empty();

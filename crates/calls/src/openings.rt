@@ -3,13 +3,13 @@ use crate::drawn::drawn;
 use crate::line::end;
 use crate::line::field;
 use crate::line::word;
-use crate::number::wide;
 use crate::rows::COUNT;
 use crate::rows::LIST;
 use crate::rows::list;
 use crate::rows::number;
-use crate::sum::of_record;
 use network::Opened;
+use sums::of_record;
+use sums::wide;
 
 fn opened(nodes: usize, destination: usize, list: &[u32], length: usize) -> Opened {
     if length <= list.len() {

@@ -4,12 +4,12 @@ use crate::file::front;
 use crate::line::end;
 use crate::line::field;
 use crate::line::word;
-use crate::number::wide;
-use crate::sum::of_bytes;
-use crate::sum::of_record;
 use drillfile::Cursor;
 use drillfile::Got;
 use drillfile::Number;
+use sums::of_bytes;
+use sums::of_record;
+use sums::wide;
 
 // The position after what was read, where there is one.
 pub(crate) enum After {

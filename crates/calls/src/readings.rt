@@ -1,18 +1,18 @@
 // Part `readings`: numbers, events and headers at any position.
 use crate::bounds::fixed_headers;
-use crate::draw::draw;
 use crate::file::File;
 use crate::file::cut;
 use crate::file::empty;
 use crate::file::with_byte;
 use crate::file::with_number;
 use crate::headers::drawn_headers;
-use crate::number::HUGE;
 use crate::number::narrow8;
-use crate::number::plus;
 use crate::read::event_line;
 use crate::read::file_line;
 use crate::read::number_line;
+use sums::HUGE;
+use sums::draw;
+use sums::plus;
 
 pub(crate) const NUMBER_BYTES: [u8; 6] = [0, 1, 127, 128, 129, 255];
 

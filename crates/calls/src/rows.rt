@@ -1,5 +1,5 @@
 // The 64 openings that are not drawn: nodes, destination, length, modulus, index, value.
-use crate::number::rest;
+use sums::rest;
 
 pub(crate) const COUNT: usize = 64;
 

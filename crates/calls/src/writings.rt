@@ -6,15 +6,15 @@ use crate::file::blank;
 use crate::line::end;
 use crate::line::field;
 use crate::line::word;
-use crate::number::double;
-use crate::number::least;
-use crate::number::less_one;
-use crate::number::plus;
-use crate::number::wide;
 use crate::rows::COUNT;
 use crate::rows::list;
 use crate::rows::number;
-use crate::sum::of_bytes;
+use sums::double;
+use sums::least;
+use sums::less_one;
+use sums::of_bytes;
+use sums::plus;
+use sums::wide;
 
 const KINDS: [u32; 7] = [0, 1, 2, 3, 4, 5, 4_294_967_295];
 
