@@ -6,7 +6,7 @@ use lib.ListN.{getD}
 use Rattle.model.specs.Limits.{nodesMost, linksMost, flightMost}
 use Rattle.network.specs.declared.record.Network.{Network}
 
--- "for each value h = (h * 48271 + value) mod 4294967291"
+-- "sum of values: h = 1; for each value h = (h * 48271 + value) mod 4294967291"
 unfoldable pub summed : ℕ → ℕ → ℕ
 summed h value = (h * 48271 + value) % 4294967291
 
@@ -14,7 +14,6 @@ abbrev pub sumFrom : ℕ → List ℕ → ℕ
 sumFrom h [] = h
 sumFrom h (v ∷ vs) = sumFrom (summed h v) vs
 
--- "h = 1"
 abbrev pub sumOf : List ℕ → ℕ
 sumOf values = sumFrom 1 values
 
@@ -23,11 +22,11 @@ unfoldable pub each : (ℕ → List ℕ) → ℕ → List ℕ
 each f zero = []
 each f (suc k) = each f k ++ f k
 
--- "true is 1, false 0"; of a direction, Out 1, In 0
+-- "true is 1, false 0"; an end that is Out has true
 abbrev pub bitOf : Bool → ℕ
 bitOf b = cond b 1 0
 
--- 1: "nodes, destination, links, in flight, events, admitted, delivered, lost, stranded"
+-- 1. "nodes, destination, links, in flight, events, admitted, delivered, lost, stranded, each as it is"
 abbrev pub countsIn : Network → List ℕ
 countsIn r =
     r .nodes
@@ -41,7 +40,7 @@ countsIn r =
     ∷ r .stranded
     ∷ []
 
--- 2: "node of end 0, node of end 1, live; then for end 0 and then end 1: direction, local bit, remote bit, mark"
+-- 2. "for each of the first min(links, 256) links: node of end 0, node of end 1, live; then for end 0 and then end 1: direction (Out 1, In 0), local bit, remote bit, mark"
 abbrev pub endAt : List Bool → List Bool → List Bool → List Bool → ℕ → List ℕ
 endAt out local remote mark x =
     bitOf (getD out x false) ∷ bitOf (getD local x false) ∷ bitOf (getD remote x false) ∷ bitOf (getD mark x false) ∷ []
@@ -52,15 +51,15 @@ linkAt node live out local remote mark k =
     ++ endAt out local remote mark (2 * k)
     ++ endAt out local remote mark (2 * k + 1)
 
--- 3: "turns"
+-- 3. "for each of the first min(nodes, 64) nodes: turns"
 abbrev pub turnsAt : List ℕ → ℕ → List ℕ
 turnsAt turns v = getD turns v 0 ∷ []
 
--- 4: "number, lane, bit"
+-- 4. "for each of the first min(in flight, 256) packets, oldest first: number, lane, bit"
 abbrev pub packetAt : List ℕ → List ℕ → List Bool → ℕ → List ℕ
 packetAt number lane bit j = getD number j 0 ∷ getD lane j 0 ∷ bitOf (getD bit j false) ∷ []
 
--- "Sum of a record, over these values in this order"
+-- "Sum of a record, over these values in this order": the four points
 unfoldable pub ofRecord : Network → ℕ
 ofRecord r =
     sumOf
