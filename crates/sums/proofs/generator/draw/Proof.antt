@@ -1,10 +1,10 @@
--- What is left of x before the product changes nothing. Assumes nothing.
-use Rattle.sums.specs.Draws.{nextOf, below}
+-- Cutting x to its remainder before the product changes nothing. Assumes nothing.
 use Prim.Native.Nat.{ℕ}
 use mathlib.Core.Path.{ap, _∙_}
 use denote.Ref.{now}
-use Rattle.sums.proofs.Remainders.{times-mod}
 use borrow.Author.Needs.{needs}
+use Rattle.sums.specs.Draws.{nextOf, below}
+use Rattle.sums.proofs.Remainders.{times-mod}
 use Rattle.sums.proofs.generator.draw.Statement.{statement}
 use Rattle.sums.proofs.generator.draw.Tie as tie
 

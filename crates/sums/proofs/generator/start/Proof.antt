@@ -1,7 +1,7 @@
 -- The sum and the remainder are those of the definition. Assumes nothing.
 use native.Mathlib.Omega.{arith}
-use Rattle.sums.specs.Draws.{startOf}
 use borrow.Author.Needs.{needs}
+use Rattle.sums.specs.Draws.{startOf}
 use Rattle.sums.proofs.generator.start.Statement.{statement}
 use Rattle.sums.proofs.generator.start.Tie as tie
 

@@ -1,8 +1,8 @@
 -- By the two cases of n. Assumes nothing.
 use native.Mathlib.Omega.{arith}
-use Rattle.sums.specs.Draws.{below}
 use borrow.Author.Tests.{eq-eqb, ne-eqb}
 use borrow.Author.Needs.{needs}
+use Rattle.sums.specs.Draws.{below}
 use Rattle.sums.proofs.number.rest.Statement.{statement}
 use Rattle.sums.proofs.number.rest.Tie as tie
 

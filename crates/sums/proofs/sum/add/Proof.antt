@@ -1,7 +1,7 @@
--- What is left of the sum and of the value before the product changes nothing. Assumes nothing.
+-- Cutting the sum and the value to their remainders first changes nothing. Assumes nothing.
+use borrow.Author.Needs.{needs}
 use Rattle.sums.specs.Sums.{summed}
 use Rattle.sums.proofs.Remainders.{times-plus-mod}
-use borrow.Author.Needs.{needs}
 use Rattle.sums.proofs.sum.add.Statement.{statement}
 use Rattle.sums.proofs.sum.add.Tie as tie
 

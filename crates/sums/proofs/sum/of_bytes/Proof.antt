@@ -1,13 +1,13 @@
 -- The bytes so far are summed. Assumes nothing.
 use Prim.Native.Nat.{ℕ, _≤_, _<_, _-_}
+use native.Mathlib.Omega.{arith}
 use mathlib.Core.Path.{_≡_, ap, _∙_}
 use lib.ListN.{length, take}
-use Rattle.sums.specs.Sums.{sumOf}
-use native.Mathlib.Omega.{arith}
-use denote.Ref.{now}
 use lib.Seq.{take-length}
-use Rattle.sums.proofs.Sums.{bytes-step}
+use denote.Ref.{now}
 use borrow.Author.Needs.{needs}
+use Rattle.sums.specs.Sums.{sumOf}
+use Rattle.sums.proofs.Sums.{bytes-step}
 use Rattle.sums.proofs.sum.of_bytes.Statement.{statement}
 use Rattle.sums.proofs.sum.of_bytes.Tie as tie
 
