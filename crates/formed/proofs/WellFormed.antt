@@ -15,7 +15,7 @@ use Rattle.model.specs.Formed.{sized, limitsHold, linkFormed, endFormed, packet
 use Rattle.model.proofs.Below.{clash, and-both, any-false}
 use Rattle.arrays.specs.declared.Tally.{Tally}
 use Rattle.arrays.specs.View.{used, netOf, endsOf, packetAt, countsOf, stateOf}
-use Rattle.formed.specs.Formed.{tallied}
+use Rattle.over.specs.Formed.{tallied}
 use Rattle.arrays.proofs.Below.{not-leb, not-ltb, all-not-any, any-same, any-never, any-or, any-pairs, all-head, length-tab, used-in}
 
 -- ---- packets
@@ -27,28 +27,6 @@ packets-tab s f (suc n) =
 
 -- ---- the limits and the sum
 module _ (nodes destination links : ℕ) (t : Tally) where
-  pub tallied-over : flightMost < t .flying → false ≡ tallied nodes destination links t
-  unfolding tallied
-  tallied-over h = rw (lt-leb (t .flying) flightMost h, and-false (sized nodes destination links))
-
-  regroup : (n d l e a s : Bool) → (((n && (d && l)) && (e && a)) && s) ≡ ((((((n && d) && l) && true) && e)) && (a && s))
-  regroup false d l e a s = refl
-  regroup true false l e a s = refl
-  regroup true true false e a s = refl
-  regroup true true true false a s = refl
-  regroup true true true true a s = refl
-
-  pub tallied-within : t .flying ≤ flightMost
-      → (leb 1 nodes && leb nodes nodesMost && (ltb destination nodes && leb links linksMost) && (leb (t .events) eventsMost && leb (t .admitted) (t .events))
-      && eqb (t .admitted) (t .flying + (t .delivered + t .lost + t .stranded)))
-      ≡ tallied nodes destination links t
-  unfolding tallied sized
-  tallied-within h =
-      let e : t .flying + (t .delivered + t .lost + t .stranded) ≡ t .flying + t .delivered + t .lost + t .stranded = omega arith in
-      rw (e, le-leb (t .flying) flightMost h)
-      (regroup (leb 1 nodes && leb nodes nodesMost) (ltb destination nodes) (leb links linksMost) (leb (t .events) eventsMost) (leb (t .admitted) (t .events))
-      (eqb (t .admitted) (t .flying + t .delivered + t .lost + t .stranded)))
-
   -- what the loops of the check rest on
   pub record Within : Type 0 where
     pub some-node : 1 ≤ nodes

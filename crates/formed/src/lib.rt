@@ -1,7 +1,4 @@
 // Whether the record that lent arrays show is well formed.
-mod down;
-mod over;
-
 use arrays::SLOTS;
 use arrays::Tally;
 use down::down_marked;
