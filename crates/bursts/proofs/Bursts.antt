@@ -7,7 +7,7 @@ use mathlib.Core.Logic.{_⊎_, inl, inr}
 use mathlib.Core.Bool.{Bool, false, cond}
 use mathlib.Core.List.{List, [], _∷_, _++_}
 use lib.Dec.{ltb}
-use lib.ListN.{length, getD, set, drop, length-set}
+use lib.ListN.{length, getD, set, drop, length-set, List·getD-append}
 use borrow.Author.Tests.{ltb-true, ltb-false}
 use Rattle.model.specs.declared.Handled.{Handled}
 use Rattle.model.specs.declared.Went.{Went}
@@ -15,7 +15,8 @@ use Rattle.model.specs.Below.{tab}
 use Rattle.model.specs.State.{State}
 use Rattle.model.specs.Formed.{wellFormed}
 use Rattle.model.specs.Outcome.{Outcome}
-use Rattle.model.proofs.Below.{look}
+use Rattle.model.proofs.Below.{look, tab-at}
+use Rattle.arrays.proofs.Below.{length-tab}
 use Rattle.steps.specs.Call.{call}
 use Rattle.bursts.specs.Bursts.{calls, callAt, packetCode, wayCode, least, filled, Lists}
 use Rattle.steps.proofs.Calls.{call-keeps, call-not-formed}
@@ -26,6 +27,12 @@ unfolding tab
 fills f k [] h = absurd (omega arith)
 fills f zero (x ∷ xs) h = refl
 fills f (suc k) (x ∷ xs) h = ap (λ l. f 0 ∷ l) (fills (λ j. f (suc j)) k xs (omega arith))
+
+-- an entry that was filled
+pub filled-at : (f : ℕ → ℕ) (k : ℕ) (xs : List ℕ) (i : ℕ) → i < k → getD (filled f k xs) i 0 ≡ f i
+filled-at f k xs i h =
+    let long = length-tab f k in
+    List·getD-append (tab f k) (drop k xs) 0 i (omega arith) ∙ tab-at 0 f k i h
 
 module _ (s : State) (kinds arguments : List ℕ) where
   -- a record that is well formed stays so, and any other stays as it is

@@ -1,20 +1,24 @@
--- A record that is not well formed: every call of a burst is refused with 1. Assumes nothing.
-use Prim.Native.Nat.{ℕ, _+_, _<_}
+-- Bursts whose calls are refused: those on a record that is not well formed, with 1, and any others. Assumes nothing.
+use Prim.Native.Nat.{ℕ, zero, suc, _+_, _<_}
+use native.Mathlib.Omega.{arith}
 use native.Mathlib.Numerals.{add-one}
 use mathlib.Core.Path.{_≡_, refl, sym, ap, _∙_}
 use mathlib.Core.Bool.{false}
 use mathlib.Core.List.{List, _++_}
+use lib.Dec.{eqb}
 use lib.ListN.{length, getD, set, drop, length-set}
+use borrow.Author.Tests.{eq-eqb, ne-eqb}
 use Rattle.model.specs.Limits.{endsMost, eventsMost}
-use Rattle.model.specs.Below.{tab}
+use Rattle.model.specs.Below.{any, tab}
 use Rattle.model.specs.State.{State}
 use Rattle.model.specs.Formed.{wellFormed}
 use Rattle.model.specs.Outcome.{Outcome, refuse}
 use Rattle.model.specs.Answers as answers
-use Rattle.arrays.proofs.Below.{tab-same}
-use Rattle.steps.proofs.Calls.{call-not-formed}
+use Rattle.model.proofs.Below.{clash, any-false}
+use Rattle.arrays.proofs.Below.{tab-same, any-never}
+use Rattle.steps.proofs.Calls.{call-not-formed, call-refused}
 use Rattle.bursts.specs.Bursts.{calls, callAt, packetCode, wayCode, filled, Lists}
-use Rattle.bursts.proofs.Bursts.{fills, calls-keep}
+use Rattle.bursts.proofs.Bursts.{fills, filled-at, calls-keep}
 
 -- the first i entries of a list are one value, the others as they were
 pub record Same (v i : ℕ) (xs ys : List ℕ) : Type 0 where
@@ -47,3 +51,23 @@ module _ (s : State) (kinds arguments : List ℕ) (h : wellFormed s ≡ false) w
         handled = p ∙ filled-same (λ i. eventsMost) (λ i. packetCode (callAt s kinds arguments i .handled)) k ps (λ i. ap (λ (o : Outcome). packetCode (o .handled)) (refused i));
         went = w ∙ filled-same (λ i. endsMost + 3) (λ i. wayCode (callAt s kinds arguments i .went)) k ws (λ i. ap (λ (o : Outcome). wayCode (o .went)) (refused i));
       }
+
+-- ---- every call refused, for whatever reason
+module _ (s : State) (kinds arguments : List ℕ) where
+  pub calls-refused : (k : ℕ) → ((i : ℕ) → i < k → callAt s kinds arguments i .answer ≡ answers.done → ⊥) → s ≡ calls s kinds arguments k
+  unfolding calls
+  calls-refused zero h = refl
+  calls-refused (suc k) h =
+      calls-refused k (λ i l. h i (omega arith))
+      ∙ sym (call-refused (calls s kinds arguments k) (getD kinds k 0) (getD arguments k 0) (h k (omega arith)))
+
+  -- the answers tell it
+  module _ (k : ℕ) (an : List ℕ) {an′ : List ℕ} (e : an′ ≡ filled (λ i. callAt s kinds arguments i .answer) k an) where
+    answer-at : (i : ℕ) → i < k → getD an′ i 0 ≡ callAt s kinds arguments i .answer
+    answer-at i h = ap (λ l. getD l i 0) e ∙ filled-at (λ j. callAt s kinds arguments j .answer) k an i h
+
+    pub none-done : any (λ i. eqb (getD an′ i 0) 0) k ≡ false → (i : ℕ) → i < k → callAt s kinds arguments i .answer ≡ answers.done → ⊥
+    none-done n i h z = clash (eq-eqb (getD an′ i 0) 0 (answer-at i h ∙ z)) (any-false (λ j. eqb (getD an′ j 0) 0) k i n h)
+
+    pub done-none : ((i : ℕ) → i < k → callAt s kinds arguments i .answer ≡ answers.done → ⊥) → any (λ i. eqb (getD an′ i 0) 0) k ≡ false
+    done-none r = any-never (λ j. eqb (getD an′ j 0) 0) k (λ i h. ne-eqb (getD an′ i 0) 0 (λ z. r i h (sym (answer-at i h) ∙ z)))

@@ -10,12 +10,14 @@ use queues::ROOM;
 use steps::Step;
 use steps::step;
 ghost use mathlib.Core.Path.{_≡_};
-ghost use mathlib.Core.Bool.{Bool, true};
+ghost use mathlib.Core.Bool.{Bool, true, not};
 ghost use mathlib.Core.List.{List};
 ghost use Prim.Native.Nat.{ℕ, _+_, _≤_, _<_};
-ghost use lib.ListN.{length, set};
+ghost use lib.Dec.{eqb};
+ghost use lib.ListN.{length, getD, set};
 ghost use Rattle.model.specs.Answers as answers;
 ghost use Rattle.model.specs.Limits.{endsMost, eventsMost};
+ghost use Rattle.model.specs.Below.{any};
 ghost use Rattle.model.specs.Formed.{wellFormed};
 ghost use Rattle.queues.specs.Queue.{room, flown, Roomy, Queued};
 ghost use Rattle.departs.specs.Steps.{stateWith, Chained, Whole};
@@ -77,6 +79,20 @@ fn note(answers: &mut [u32], packets: &mut [u32], ways: &mut [usize], k: usize, 
     packets[k] = packet_code(handled);
     let went = r.went;
     ways[k] = way_code(went);
+}
+
+// Whether every call was refused.
+pub fn all_refused(answers: &[u32], count: usize) -> bool
+    requires { ⌜ count ≤ length (now answers) ⌝ }
+    ensures { λ r. ⌜ r ≡ not (any (λ i. eqb (getD (now (answers .entry)) i 0) 0) count) ⌝ }
+{
+    let mut accepted = false;
+    let mut i: usize = 0;
+    while i < count {
+        accepted = accepted | (answers[i] == 0);
+        i += 1;
+    }
+    !accepted
 }
 
 // A record that is not well formed: every call is refused with 1.

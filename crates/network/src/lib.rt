@@ -3,6 +3,7 @@ mod opening;
 mod record;
 
 use arrays::Tally;
+use bursts::all_refused;
 use bursts::refuse_all;
 use bursts::run;
 use bursts::shortest;
@@ -247,6 +248,13 @@ impl Network {
             ways,
             count,
         );
+        // slots past those in use may have moved
+        if all_refused(answers, count) {
+            return Burst {
+                network: self,
+                count,
+            };
+        }
         let t = ran.tally;
         let mut number = self.number;
         let mut lane = self.lane;

@@ -7,14 +7,13 @@ use mathlib.Core.Bool.{true}
 use mathlib.Core.List.{List, [], _∷_, _++_}
 use mathlib.Core.Option.{Option, none, some}
 use lib.Dec.{ltb, leb}
-use lib.ListN.{getD, drop, List·getD-append}
+use lib.ListN.{getD}
 use borrow.Author.Tests.{lt-ltb, ltb-false, ne-eqb}
 use Rattle.model.specs.declared.Handled.{Handled}
 use Rattle.model.specs.declared.Handled.the-variants as handled
 use Rattle.model.specs.declared.Went.{Went}
 use Rattle.model.specs.declared.Went.the-variants as went
 use Rattle.model.specs.Limits.{endsMost, eventsMost}
-use Rattle.model.specs.Below.{tab}
 use Rattle.model.specs.State.{State}
 use Rattle.model.specs.Formed.{wellFormed}
 use Rattle.model.specs.Outcome.{Outcome, accepting}
@@ -22,13 +21,12 @@ use Rattle.model.specs.Events.{Event}
 use Rattle.model.specs.File.{ofKind}
 use Rattle.model.specs.Text.{digits, handledWord, wentWord, line, eventLine}
 use Rattle.model.specs.Promises.{InRange}
-use Rattle.model.proofs.Below.{look, tab-at}
+use Rattle.model.proofs.Below.{look}
 use Rattle.model.proofs.Numbers.{never}
 use Rattle.model.proofs.Named.{few-lanes, named}
 use Rattle.steps.specs.Call.{made, call}
 use Rattle.bursts.specs.Bursts.{calls, callAt, packetCode, wayCode, least, filled, Lists}
-use Rattle.arrays.proofs.Below.{length-tab}
-use Rattle.bursts.proofs.Bursts.{calls-keep}
+use Rattle.bursts.proofs.Bursts.{filled-at, calls-keep}
 use Rattle.letters.specs.Puts.{Room, Put}
 use Rattle.letters.specs.Digits.{joined}
 use Rattle.lines.specs.Codes.{packetWord, wayWord, codeLine}
@@ -69,11 +67,6 @@ unfolding call
 call-in-range s k a w = kind-in-range s w (ofKind k) a
 
 -- ---- the burst's lists
-filled-at : (f : ℕ → ℕ) (k : ℕ) (xs : List ℕ) (i : ℕ) → i < k → getD (filled f k xs) i 0 ≡ f i
-filled-at f k xs i h =
-    let long = length-tab f k in
-    List·getD-append (tab f k) (drop k xs) 0 i (omega arith) ∙ tab-at 0 f k i h
-
 same-line : (ordinal : ℕ) {a b p q w v : ℕ} → a ≡ b → p ≡ q → w ≡ v → codeLine ordinal a p w ≡ codeLine ordinal b q v
 same-line ordinal x y z = rw (x, y, z)
 
