@@ -16,7 +16,7 @@ use Rattle.model.proofs.Opening.{tested}
 use Rattle.network.specs.declared.opening.Opened.{Opened}
 use Rattle.network.specs.Opening.{OpenPost}
 use Rattle.network.proofs.Filled.{lone-view}
-use Rattle.drillfile.specs.declared.answers.Cursor.{Cursor}
+use Rattle.entries.specs.declared.answers.Cursor.{Cursor}
 use Rattle.drillfile.specs.declared.answers.Headed.{Headed}
 use Rattle.drillfile.specs.declared.header.Listed.{Listed}
 use Rattle.drillfile.specs.Headers.{headerOf, HeaderPost, refusedHeader, fromLinks, listed}

@@ -16,10 +16,10 @@ use Rattle.model.proofs.Format.{Small, numbers-cons, numbers-nil, Opens, opens,
 use Rattle.model.proofs.Pieces.{header-stored}
 use Rattle.network.specs.declared.opening.Opened.{Opened}
 use Rattle.network.specs.Opening.{OpenPost}
-use Rattle.drillfile.specs.declared.answers.Written.{Written}
-use Rattle.drillfile.specs.Outcomes.{refusal, holding}
+use Rattle.entries.specs.declared.answers.Written.{Written}
+use Rattle.entries.specs.Outcomes.{refusal, holding}
 use Rattle.drillfile.specs.Headers.{headerOf}
-use Rattle.drillfile.proofs.Stores.{two-no-room, two-room}
+use Rattle.entries.proofs.Stores.{two-no-room, two-room}
 use Rattle.drillfile.proofs.Runs.{numbers-short}
 
 small-at : (ns : List ℕ) → Small ns → (i : ℕ) → getD ns i 0 ≤ numberMost

@@ -1,7 +1,3 @@
-pub mod KnownKinds
-pub mod EventRead
-pub mod Stores
-pub mod EventWritten
 pub mod Runs
 pub mod NodeList
 pub mod HeaderRead

@@ -11,7 +11,7 @@ use Rattle.model.specs.Number.{Read, had, refused}
 use Rattle.model.specs.File.{andThen, Header, opening, readNumbers, accepted}
 use Rattle.network.specs.View.{view}
 use Rattle.network.specs.Opening.{loneNetwork}
-use Rattle.drillfile.specs.declared.answers.Cursor.{Cursor}
+use Rattle.entries.specs.declared.answers.Cursor.{Cursor}
 use Rattle.drillfile.specs.declared.answers.Headed.{Headed}
 use Rattle.drillfile.specs.declared.header.Listed.{Listed}
 

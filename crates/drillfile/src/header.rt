@@ -1,8 +1,8 @@
 // Reading a header: its sizes, its links, and the record that they open.
-use crate::answers::Cursor;
-use crate::answers::DONE;
 use crate::answers::Headed;
 use crate::answers::SPOILT;
+use entries::Cursor;
+use entries::DONE;
 use groups::Number;
 use groups::read_number;
 ghost use mathlib.Core.Path.{_≡_};

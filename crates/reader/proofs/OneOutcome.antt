@@ -11,7 +11,8 @@ use borrow.Fn.Kinds.{Dens, endedOf}
 use borrow.Fn.World.{World}
 use Rattle.groups.proofs.OneOutcome.{OneAnswer}
 use Rattle.drillfile.specs.declared.answers.Headed.{Headed}
-use Rattle.drillfile.proofs.OneOutcome.{got-same, Same, header-same}
+use Rattle.entries.proofs.OneOutcome.{got-same}
+use Rattle.drillfile.proofs.OneOutcome.{Same, header-same}
 use Rattle.reader.proofs.new as new
 use Rattle.reader.proofs.moved as moved
 use Rattle.reader.proofs.header as header

@@ -16,10 +16,10 @@ use Rattle.model.specs.File.{andThen, Header, opening, readNumbers, accepted, r
 use Rattle.model.proofs.Below.{look}
 use Rattle.model.proofs.Numbers.{never, number-place}
 use Rattle.network.specs.View.{view}
-use Rattle.drillfile.specs.declared.answers.Cursor.{Cursor}
+use Rattle.entries.specs.declared.answers.Cursor.{Cursor}
 use Rattle.drillfile.specs.declared.answers.Headed.{Headed}
-use Rattle.drillfile.specs.declared.answers.Got.the-variants as got
-use Rattle.drillfile.specs.Outcomes.{Seen, seen, seenAt, eventAt}
+use Rattle.entries.specs.declared.answers.Got.the-variants as got
+use Rattle.entries.specs.Outcomes.{Seen, seen, seenAt, eventAt}
 use Rattle.drillfile.specs.Headers.{HeaderSeen, seenHeader, headerSeen, HeaderPost}
 
 -- a reading that can't be had ends there, or goes on

@@ -6,7 +6,7 @@ use drillfile::read_event;
 use drillfile::read_header;
 ghost use mathlib.Core.Path.{_≡_};
 ghost use Rattle.model.specs.File.{readHeader};
-ghost use Rattle.drillfile.specs.Outcomes.{seen, eventAt};
+ghost use Rattle.entries.specs.Outcomes.{seen, eventAt};
 ghost use Rattle.drillfile.specs.Headers.{HeaderPost};
 ghost use Rattle.reader.specs.Readers.{readerAt};
 

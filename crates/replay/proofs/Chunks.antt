@@ -11,9 +11,9 @@ use Rattle.model.specs.Events.{Event}
 use Rattle.model.specs.Number.{had}
 use Rattle.model.specs.File.{kind, argument, readEvent, andMore, readEvents}
 use Rattle.model.proofs.Had.{event-moves, unfueled}
-use Rattle.drillfile.specs.declared.answers.Cursor.{Cursor}
-use Rattle.drillfile.specs.declared.answers.Got.the-variants as got
-use Rattle.drillfile.specs.Outcomes.{seen, eventAt}
+use Rattle.entries.specs.declared.answers.Cursor.{Cursor}
+use Rattle.entries.specs.declared.answers.Got.the-variants as got
+use Rattle.entries.specs.Outcomes.{seen, eventAt}
 use Rattle.reader.proofs.Told.{event-told, end-told, spoilt-told}
 use Rattle.replay.specs.declared.chunk.Stop.{Stop}
 use Rattle.replay.specs.declared.chunk.Gathered.{Gathered}

@@ -7,7 +7,7 @@ use Rattle.model.specs.File.{readHeader}
 use Rattle.model.proofs.Numbers.{number-moves}
 use Rattle.model.proofs.Format.{sizes-small}
 use Rattle.drillfile.specs.Headers.{HeaderPost}
-use Rattle.drillfile.proofs.EventRead.{as-had, as-spoilt}
+use Rattle.entries.proofs.EventRead.{as-had, as-spoilt}
 use Rattle.drillfile.proofs.HeaderRead.{first-at, refuses, nodes-cut, destination-cut, links-cut, wrong-sizes, right-sizes}
 use borrow.Author.Needs.{needs}
 use Rattle.drillfile.proofs.read_header.Statement.{statement}

@@ -35,10 +35,10 @@ use denote.Triple.Table.{entered, cited}
 use denote.Triple.Walked.{says, Stays, stay-none, stay-none-slice, walkOf, goes-none, goes-none-slice, Walks, ends-at, walked, walk-meets}
 use denote.Exit.{yes}
 use denote.Triple.Clauses.{ensured, lasts}
-use Rattle.drillfile.specs.Outcomes.{seen, eventAt}
-use Rattle.drillfile.specs.declared.answers.Got.{Got}
-use Rattle.drillfile.proofs.answers.Got as S
-use Rattle.drillfile.proofs.answers.Got.Laws as S′
+use Rattle.entries.specs.Outcomes.{seen, eventAt}
+use Rattle.entries.specs.declared.answers.Got.{Got}
+use Rattle.entries.proofs.answers.Got as S
+use Rattle.entries.proofs.answers.Got.Laws as S′
 use Rattle.reader.specs.Readers.{readerAt}
 use Rattle.reader.specs.declared.Reader.{Reader}
 use Rattle.reader.proofs.Held.{B}

@@ -2,7 +2,7 @@
 use Prim.Native.Nat.{_-_}
 use mathlib.Core.Path.{refl}
 use denote.Ref.{now}
-use Rattle.drillfile.proofs.EventRead.{as-had, as-spoilt}
+use Rattle.entries.proofs.EventRead.{as-had, as-spoilt}
 use Rattle.drillfile.proofs.NodeList.{SoFar, begun, one-more, cut-off, all-read}
 use borrow.Author.Needs.{needs}
 use Rattle.drillfile.proofs.header.read_list.Statement.{statement}

@@ -4,7 +4,7 @@ use native.Mathlib.Omega.{arith}
 use mathlib.Core.Path.{sym, ap, _∙_}
 use denote.Ref.{now}
 use borrow.Author.Needs.{needs}
-use Rattle.drillfile.specs.Outcomes.{seen}
+use Rattle.entries.specs.Outcomes.{seen}
 use Rattle.replay.specs.declared.chunk.Stop.the-variants.{More, End, Spoilt}
 use Rattle.replay.specs.Chunks.{Gathers}
 use Rattle.replay.proofs.Chunks.{gathers-none, gathers-more, reads-end, reads-spoilt, gathered}

@@ -2,10 +2,10 @@
 use mathlib.Core.Path.{sym, _∙_}
 use denote.Ref.{now}
 use borrow.Author.Tests.{not-true, not-false}
-use Rattle.drillfile.proofs.EventRead.{no-more, no-kind, unknown-kind, no-argument, whole}
+use Rattle.entries.proofs.EventRead.{no-more, no-kind, unknown-kind, no-argument, whole}
 use borrow.Author.Needs.{needs}
-use Rattle.drillfile.proofs.read_event.Statement.{statement}
-use Rattle.drillfile.proofs.read_event.Tie as tie
+use Rattle.entries.proofs.read_event.Statement.{statement}
+use Rattle.entries.proofs.read_event.Tie as tie
 
 returns : tie.Need-returns
 returns c = no-more (now (c .before .before .args .file)) (c .before .before .args .from) (c .if1 .taken)

@@ -12,10 +12,10 @@ use Rattle.model.specs.Number.{numberBytes}
 use Rattle.model.specs.File.{ofKind}
 use Rattle.model.specs.Writing.{numbersBytes, store, writeEvent}
 use Rattle.model.proofs.Format.{numbers-cons, numbers-nil, kind-made}
-use Rattle.drillfile.specs.declared.answers.Written.{Written}
-use Rattle.drillfile.specs.Outcomes.{known, refusal, holding}
-use Rattle.drillfile.proofs.KnownKinds.{known-makes, known-not}
-use Rattle.drillfile.proofs.Stores.{two-no-room, two-room}
+use Rattle.entries.specs.declared.answers.Written.{Written}
+use Rattle.entries.specs.Outcomes.{known, refusal, holding}
+use Rattle.entries.proofs.KnownKinds.{known-makes, known-not}
+use Rattle.entries.proofs.Stores.{two-no-room, two-room}
 
 module _ (k a : ℕ) where
   abbrev bytes : List ℕ

@@ -8,9 +8,9 @@ use Rattle.model.specs.Events.{Event}
 use Rattle.model.specs.Number.{Read, had, refused}
 use Rattle.model.specs.File.{kind, argument, readEvent}
 use Rattle.model.specs.Writing as writing
-use Rattle.drillfile.specs.declared.answers.Got.{Got}
-use Rattle.drillfile.specs.declared.answers.Got.the-variants as got
-use Rattle.drillfile.specs.declared.answers.Written.{Written}
+use Rattle.entries.specs.declared.answers.Got.{Got}
+use Rattle.entries.specs.declared.answers.Got.the-variants as got
+use Rattle.entries.specs.declared.answers.Written.{Written}
 
 -- ---- reading an event
 -- the answer, its place, the event by its kind and argument, and the position after

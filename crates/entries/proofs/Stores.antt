@@ -11,8 +11,8 @@ use Rattle.model.specs.Answers as answers
 use Rattle.model.specs.Writing.{store}
 use Rattle.model.proofs.Pieces.{stored}
 use Rattle.groups.proofs.Stores.{sets-append, sets-front}
-use Rattle.drillfile.specs.declared.answers.Written.{Written}
-use Rattle.drillfile.specs.Outcomes.{refusal, holding}
+use Rattle.entries.specs.declared.answers.Written.{Written}
+use Rattle.entries.specs.Outcomes.{refusal, holding}
 
 pub no-room : (bytes part : List ℕ) {w : Written} → length part < length bytes → w ≡ refusal answers.tooShort 0 → holding w part ≡ store bytes part
 unfolding store

@@ -1,7 +1,7 @@
 // A contract sees the fields of an enum by their places alone: these two hold the names to the places.
 use crate::answers::Got;
 ghost use mathlib.Core.Path.{_≡_};
-ghost use Rattle.drillfile.specs.Outcomes.{kindIn, argumentIn};
+ghost use Rattle.entries.specs.Outcomes.{kindIn, argumentIn};
 
 // The kind of an event that was read; 0 where there is none.
 pub(crate) fn kind_of(read: Got) -> u32

@@ -1,7 +1,7 @@
 -- 1 to 4 are known, and no other. Assumes nothing.
-use Rattle.drillfile.proofs.KnownKinds.{under, above}
-use Rattle.drillfile.proofs.reading.is_kind.Statement.{statement}
-use Rattle.drillfile.proofs.reading.is_kind.Tie as tie
+use Rattle.entries.proofs.KnownKinds.{under, above}
+use Rattle.entries.proofs.reading.is_kind.Statement.{statement}
+use Rattle.entries.proofs.reading.is_kind.Tie as tie
 
 returns : tie.Need-returns
 returns c = above (c .before .args .kind) (c .if1 .taken)

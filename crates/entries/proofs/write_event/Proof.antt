@@ -3,12 +3,12 @@ use native.Mathlib.Omega.{arith}
 use mathlib.Core.Path.{sym, _∙_}
 use denote.Ref.{now}
 use borrow.Author.Tests.{not-true, not-false}
-use Rattle.drillfile.proofs.KnownKinds.{known-small}
+use Rattle.entries.proofs.KnownKinds.{known-small}
 use Rattle.model.proofs.Numbers.{number-short}
-use Rattle.drillfile.proofs.EventWritten.{unknown, too-large, too-short, done}
+use Rattle.entries.proofs.EventWritten.{unknown, too-large, too-short, done}
 use borrow.Author.Needs.{needs}
-use Rattle.drillfile.proofs.write_event.Statement.{statement}
-use Rattle.drillfile.proofs.write_event.Tie as tie
+use Rattle.entries.proofs.write_event.Statement.{statement}
+use Rattle.entries.proofs.write_event.Tie as tie
 
 is-kind-requires : tie.Need-is-kind-requires
 is-kind-requires c κs = search needs

@@ -14,10 +14,10 @@ use Rattle.model.proofs.Format.{kind-made, event-end}
 use Rattle.groups.specs.declared.answers.Number.{Number}
 use Rattle.groups.specs.declared.answers.Number.the-variants.{Value, Spoilt}
 use Rattle.groups.specs.Numbers.{numberOf}
-use Rattle.drillfile.specs.declared.answers.Cursor.{Cursor}
-use Rattle.drillfile.specs.declared.answers.Got.the-variants as got
-use Rattle.drillfile.specs.Outcomes.{seen, eventAt, known}
-use Rattle.drillfile.proofs.KnownKinds.{known-makes, known-not}
+use Rattle.entries.specs.declared.answers.Cursor.{Cursor}
+use Rattle.entries.specs.declared.answers.Got.the-variants as got
+use Rattle.entries.specs.Outcomes.{seen, eventAt, known}
+use Rattle.entries.proofs.KnownKinds.{known-makes, known-not}
 
 -- a number that was not had was looked for at its place
 pub place-is : (file : List ℕ) (at place : ℕ) → at ≤ length file → readNumber file at ≡ refused answers.spoilt place

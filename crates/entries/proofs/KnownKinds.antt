@@ -13,7 +13,7 @@ use Rattle.model.specs.Events.{Event}
 use Rattle.model.specs.File.{ofKind}
 use Rattle.model.proofs.Below.{look}
 use Rattle.model.proofs.Format.{kind-small, kind-made}
-use Rattle.drillfile.specs.Outcomes.{known}
+use Rattle.entries.specs.Outcomes.{known}
 
 -- 1 to 4 are known, and no other
 none-known : (k : ℕ) → (k ≡ 1 → ⊥) → (k ≡ 2 → ⊥) → (k ≡ 3 → ⊥) → (k ≡ 4 → ⊥) → known (ofKind k) ≡ false

@@ -1,0 +1,5 @@
+pub mod KnownKinds
+pub mod EventRead
+pub mod Stores
+pub mod EventWritten
+pub mod OneOutcome
