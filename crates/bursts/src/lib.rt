@@ -81,18 +81,19 @@ fn note(answers: &mut [u32], packets: &mut [u32], ways: &mut [usize], k: usize, 
     ways[k] = way_code(went);
 }
 
-// Whether every call was refused.
+// Whether every call was refused: told by the first that was not, as a rule the first of all.
 pub fn all_refused(answers: &[u32], count: usize) -> bool
     requires { ⌜ count ≤ length (now answers) ⌝ }
     ensures { λ r. ⌜ r ≡ not (any (λ i. eqb (getD (now (answers .entry)) i 0) 0) count) ⌝ }
 {
-    let mut accepted = false;
     let mut i: usize = 0;
     while i < count {
-        accepted = accepted | (answers[i] == 0);
+        if answers[i] == 0 {
+            return false;
+        }
         i += 1;
     }
-    !accepted
+    true
 }
 
 // A record that is not well formed: every call is refused with 1.
