@@ -1,10 +1,9 @@
 -- The arrays of the packets in flight.
-use Prim.Native.Nat.{ℕ, suc, _+_, _<_}
+use Prim.Native.Nat.{ℕ, _+_}
 use mathlib.Core.Path.{_≡_}
-use mathlib.Core.Bool.{Bool, cond, _||_}
+use mathlib.Core.Bool.{Bool}
 use mathlib.Core.List.{List}
-use lib.Dec.{ltb, leb}
-use lib.ListN.{length, getD}
+use lib.ListN.{length}
 use Rattle.model.specs.Limits.{flightMost}
 use Rattle.model.specs.State.{Packet}
 use Rattle.model.specs.Below.{tab}

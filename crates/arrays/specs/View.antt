@@ -1,11 +1,11 @@
 -- What a reader sees of a record: the entries in use, and nothing past them.
 use Prim.Native.Nat.{ℕ, _+_, _-_, _*_, _<_}
 use mathlib.Core.Path.{_≡_}
-use mathlib.Core.Bool.{Bool, true, false, cond}
+use mathlib.Core.Bool.{Bool, false, cond}
 use mathlib.Core.List.{List, []}
 use lib.Dec.{ltb, eqb}
 use lib.ListN.{getD}
-use Rattle.model.specs.Below.{first, tab}
+use Rattle.model.specs.Below.{first}
 use Rattle.model.specs.State.{Net, Ends, Packet, Counts, State}
 use Rattle.arrays.specs.declared.Tally.{Tally}
 

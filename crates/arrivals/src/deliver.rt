@@ -15,7 +15,7 @@ use model::Went;
 ghost use mathlib.Core.Path.{_≡_};
 ghost use mathlib.Core.Bool.{Bool, true, false, not, _&&_, _||_};
 ghost use mathlib.Core.List.{List};
-ghost use Prim.Native.Nat.{ℕ, _*_, _≤_, _<_};
+ghost use Prim.Native.Nat.{_*_, _≤_, _<_};
 ghost use lib.ListN.{getD, set, length};
 ghost use Rattle.model.specs.Limits.{nodesMost, linksMost, endsMost, flightMost, eventsMost};
 ghost use Rattle.model.specs.State.{Packet};

@@ -3,9 +3,9 @@ use Prim.Native.Nat.{ℕ, zero, suc, _+_, _≤_, _<_}
 use native.Mathlib.Omega.{arith}
 use native.Mathlib.Numerals.{add-one}
 use mathlib.Core.Path.{_≡_, refl, sym, ap, _∙_, subst}
-use mathlib.Core.Logic.{_⊎_, inl, inr}
-use mathlib.Core.Bool.{Bool, false, cond}
-use mathlib.Core.List.{List, [], _∷_, _++_}
+use mathlib.Core.Logic.{inl, inr}
+use mathlib.Core.Bool.{false}
+use mathlib.Core.List.{List, [], _∷_}
 use lib.Dec.{ltb}
 use lib.ListN.{length, getD, set, drop, length-set, List·getD-append}
 use borrow.Author.Tests.{ltb-true, ltb-false}

@@ -1,23 +1,23 @@
 -- What a well-formed record tells of its arrays. Assumes nothing.
 use Prim.Native.Nat.{ℕ, _+_, _*_, _/_, _≤_, _<_}
 use native.Mathlib.Omega.{arith}
-use mathlib.Core.Path.{_≡_, refl, sym, _∙_, subst}
+use mathlib.Core.Path.{_≡_, sym, _∙_, subst}
 use mathlib.Core.Logic.{_⊎_, inl, inr}
 use mathlib.Core.Bool.{Bool, true, false, not, _&&_}
 use mathlib.Core.List.{List}
 use lib.Dec.{ltb, leb, eqb}
 use lib.ListN.{length, getD}
 use borrow.Author.Tests.{leb-true, ltb-true}
-use Rattle.model.specs.Limits.{nodesMost, linksMost, flightMost, eventsMost}
-use Rattle.model.specs.State.{State, Net, Packet, Counts, end, linkOf, whole}
+use Rattle.model.specs.Limits.{nodesMost, linksMost, flightMost}
+use Rattle.model.specs.State.{State, Packet, end, linkOf}
 use Rattle.model.specs.Formed.{sized, joins, wellFormed}
 use Rattle.model.proofs.Below.{and-both}
 use Rattle.model.proofs.Ends.{which-end}
-use Rattle.model.proofs.Formed.{Formed, formed-if}
+use Rattle.model.proofs.Formed.{formed-if}
 use Rattle.arrays.specs.declared.Tally.{Tally}
 use Rattle.arrays.specs.View.{used}
 use Rattle.arrays.proofs.Below.{used-in}
-use Rattle.departs.specs.Steps.{stateWith, MarksLive, Fair, Sound}
+use Rattle.departs.specs.Steps.{stateWith, Sound}
 
 pub record Sizes (nodes destination links : ℕ) : Type 0 where
   pub nodes-most : nodes ≤ nodesMost

@@ -3,7 +3,7 @@ use arrays::Tally;
 use model::Handled;
 use model::Went;
 ghost use mathlib.Core.Path.{_≡_};
-ghost use Prim.Native.Nat.{_≤_, _<_};
+ghost use Prim.Native.Nat.{_≤_};
 ghost use Rattle.model.specs.Limits.{eventsMost};
 ghost use Rattle.departs.specs.Steps.{Fair, tallied};
 

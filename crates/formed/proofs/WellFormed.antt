@@ -3,12 +3,12 @@ use Prim.Native.Nat.{ℕ, zero, suc, _+_, _-_, _*_, _/_, _%_, _≤_, _<_}
 use native.Mathlib.Omega.{arith}
 use native.Mathlib.Nat.{add-zero}
 use mathlib.Core.Path.{_≡_, refl, sym, ap, _∙_}
-use mathlib.Core.Bool.{Bool, true, false, not, _&&_, _||_, and-false, and-self}
+use mathlib.Core.Bool.{Bool, true, false, not, _&&_, _||_, and-self}
 use mathlib.Core.List.{List, []}
 use lib.Dec.{leb, ltb, eqb}
 use lib.ListN.{getD}
-use borrow.Author.Tests.{le-leb, lt-leb, leb-true, leb-false, not-true}
-use Rattle.model.specs.Limits.{nodesMost, linksMost, flightMost, eventsMost}
+use borrow.Author.Tests.{leb-true, leb-false, not-true}
+use Rattle.model.specs.Limits.{nodesMost, linksMost, flightMost}
 use Rattle.model.specs.Below.{any, all, tab}
 use Rattle.model.specs.State.{Packet, State, opp, whole}
 use Rattle.model.specs.Formed.{sized, limitsHold, linkFormed, endFormed, packetFormed, packetsFormed, turnsFormed, summed, wellFormed}

@@ -11,7 +11,7 @@ use model::Handled;
 use model::Went;
 pub use steps::Step;
 use steps::step;
-ghost use Rattle.lent.specs.Lent.{Arrays, LentPost};
+ghost use Rattle.lent.specs.Lent.{LentPost};
 
 // The answer of a record that is not well formed.
 const NOT_FORMED: u32 = 1;

@@ -1,14 +1,13 @@
 -- The table's rows, made and read. Assumes nothing.
 use Prim.Native.Nat.{ℕ, zero, suc, _+_, _*_, _/_, _≤_, _<_}
-use Prim.Native.Char.{code}
 use native.Mathlib.Nat.{add-zero}
 use native.Mathlib.Numerals.{add-one}
 use native.Mathlib.Omega.{arith}
 use native.Mathlib.Decide.{decLt}
 use mathlib.Core.Path.{_≡_, refl, sym, ap, _∙_}
 use mathlib.Core.List.{List, [], _∷_, _++_, append-nil}
-use lib.ListN.{length, getD, drop, length-append, List·getD-append, drop-of-length-le}
-use lib.Seq.{sets, length-sets, getD-append-add}
+use lib.ListN.{length, getD, length-append, List·getD-append, drop-of-length-le}
+use lib.Seq.{sets, getD-append-add}
 use borrow.Author.Tests.{lt-ltb, le-ltb}
 use Rattle.model.specs.Text.{digits}
 use Rattle.groups.proofs.Stores.{sets-append, sets-front}

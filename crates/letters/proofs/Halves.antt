@@ -8,7 +8,7 @@ use lib.Seq.{sets, length-sets}
 use Rattle.model.specs.Limits.{textMost}
 use Rattle.model.specs.Text.{ascii, digits}
 use Rattle.letters.specs.Puts.{Room, Put}
-use Rattle.letters.specs.Digits.{thousand, joined, wide, front, back, digitRows, halfAt}
+use Rattle.letters.specs.Digits.{thousand, joined, wide, back, digitRows, halfAt}
 use Rattle.letters.proofs.Decimals.{lastThree, joined-digits}
 use Rattle.letters.proofs.Over.{sets-over}
 use Rattle.letters.proofs.DigitRows.{front-is, front-bytes, front-count, back-bytes}

@@ -1,12 +1,12 @@
 -- The words of a burst's codes, each with the byte after it, as the code tells them apart. Assumes nothing.
 use Prim.Native.Nat.{ℕ, _+_, _/_, _%_, _≤_, _<_}
 use native.Mathlib.Omega.{arith}
-use mathlib.Core.Path.{_≡_, refl, sym, ap, _∙_}
+use mathlib.Core.Path.{_≡_, refl, ap, _∙_}
 use mathlib.Core.List.{[], _∷_, _++_}
 use borrow.Author.Tests.{lt-ltb, le-ltb, ne-eqb}
 use Rattle.model.specs.Limits.{endsMost, eventsMost}
 use Rattle.model.specs.Text.{ascii, digits}
-use Rattle.letters.specs.Digits.{lastDigit, thousand, joined}
+use Rattle.letters.specs.Digits.{lastDigit, joined}
 use Rattle.lines.specs.Codes.{packetWord, wayWord}
 use Rattle.letters.proofs.DigitRows.{small-one}
 

@@ -11,7 +11,7 @@ use borrow.Author.Tests.{ltb-true, ltb-false, not-false}
 use Rattle.model.specs.Answers as answers
 use Rattle.model.specs.State.{end}
 use Rattle.model.specs.Formed.{sized, joins}
-use Rattle.model.specs.Opening.{nodeIn, linksIn, opened, ClosedWalk, holdsClosedWalk, firstBadLink, openFrom}
+use Rattle.model.specs.Opening.{nodeIn, linksIn, opened, holdsClosedWalk, firstBadLink, openFrom}
 use Rattle.model.specs.Promises.{FourExactly}
 use Rattle.model.proofs.Below.{look, clash, and-both, first-none}
 use Rattle.model.proofs.Walks.{found-if-closed, closed-if-found}

@@ -3,13 +3,13 @@
 use Prim.Native.Nat.{ℕ, zero, suc, _<_, _≤_}
 use native.Mathlib.Omega.{arith}
 use mathlib.Core.Path.{_≡_, refl, sym, _∙_, subst}
-use mathlib.Core.Logic.{_⊎_, inl, inr}
+use mathlib.Core.Logic.{inl, inr}
 use mathlib.Core.Bool.{Bool, true, false, _&&_}
 use mathlib.Core.List.{List}
 use lib.Dec.{eqb}
 use lib.ListN.{getD}
 use borrow.Author.Tests.{eqb-true, eq-eqb}
-use Rattle.model.specs.Below.{any, tab}
+use Rattle.model.specs.Below.{any}
 use Rattle.model.specs.State.{end}
 use Rattle.model.specs.Opening.{nodeIn, linksIn, Walk, along, then, ClosedWalk, setsOut, holdsClosedWalk}
 use Rattle.model.proofs.Below.{and-both, last-or-below, any-here, any-found, tab-at}

@@ -1,10 +1,10 @@
 -- "Deliver lane x. The oldest packet of lane x, bit p, reaches the other end of link L at node v."
 use Prim.Native.Nat.{ℕ}
-use mathlib.Core.Bool.{Bool, true, false, not, cond, xor, _&&_}
+use mathlib.Core.Bool.{Bool, false, not, cond, xor, _&&_}
 use lib.Dec.{eqb}
 use Rattle.model.specs.declared.Went.the-variants as went
 use Rattle.model.specs.Answers as answers
-use Rattle.model.specs.State.{opp, Ends, Packet, State}
+use Rattle.model.specs.State.{opp, State}
 use Rattle.model.specs.Outcome.{Outcome, refuse, counted, gives, leaves, onward}
 use Rattle.model.specs.Lanes.{taken, offLane}
 

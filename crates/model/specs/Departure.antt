@@ -1,10 +1,10 @@
 -- "Departure update at v", and the way out.
 use Prim.Native.Nat.{ℕ, suc}
-use mathlib.Core.Bool.{Bool, true, false, not, cond, _&&_, _||_}
+use mathlib.Core.Bool.{Bool, not, cond, _&&_, _||_}
 use mathlib.Core.List.{[], _∷_, _++_}
 use lib.Dec.{eqb}
 use Rattle.model.specs.Below.{any, first}
-use Rattle.model.specs.State.{end, Packet, State, lanes, live}
+use Rattle.model.specs.State.{end, State, lanes, live}
 
 -- x is an end of node v, and still has its link; it is Out, too; it is a marked end of v
 abbrev pub liveAt : State → ℕ → ℕ → Bool

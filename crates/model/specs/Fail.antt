@@ -1,13 +1,13 @@
 -- "Fail link l."
 use Prim.Native.Nat.{ℕ, _-_}
-use mathlib.Core.Bool.{true, false, not, cond}
+use mathlib.Core.Bool.{false, not, cond}
 use mathlib.Core.List.{List, [], _∷_}
 use lib.Dec.{leb, eqb}
 use lib.ListN.{length}
 use Rattle.model.specs.declared.Handled.the-variants as handled
 use Rattle.model.specs.declared.Went.the-variants as went
 use Rattle.model.specs.Answers as answers
-use Rattle.model.specs.State.{linkOf, Ends, Packet, State}
+use Rattle.model.specs.State.{linkOf, Packet, State}
 use Rattle.model.specs.Outcome.{Outcome, refuse, accepting, counted}
 
 -- the packets on no lane of link l

@@ -1,12 +1,12 @@
 -- "A record is well formed when .."
 use Prim.Native.Nat.{ℕ, _+_}
-use mathlib.Core.Bool.{Bool, true, false, not, _&&_, _||_}
+use mathlib.Core.Bool.{Bool, true, not, _&&_, _||_}
 use mathlib.Core.List.{List, [], _∷_}
 use lib.Dec.{ltb, leb, eqb}
 use lib.ListN.{length}
 use Rattle.model.specs.Limits.{nodesMost, linksMost, flightMost, eventsMost}
 use Rattle.model.specs.Below.{all}
-use Rattle.model.specs.State.{end, Net, Packet, State, lanes, live, whole}
+use Rattle.model.specs.State.{end, Packet, State, lanes, live, whole}
 
 -- "nodes not 1 to 64, destination not a node, links over 256": the other side of answer 2
 unfoldable pub sized : ℕ → ℕ → ℕ → Bool

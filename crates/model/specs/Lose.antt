@@ -1,7 +1,7 @@
 -- "Lose lane x."
 use Prim.Native.Nat.{ℕ}
 use Rattle.model.specs.declared.Went.the-variants as went
-use Rattle.model.specs.State.{Packet, State}
+use Rattle.model.specs.State.{State}
 use Rattle.model.specs.Outcome.{Outcome, counted, gives}
 use Rattle.model.specs.Lanes.{taken, offLane}
 

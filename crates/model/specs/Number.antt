@@ -1,7 +1,7 @@
 -- A number of the drill file: "groups of seven bits, low group first. The top bit is set on every byte but the last. One to three bytes;
 -- shortest form only, so the last byte of two or three is not 0."
 use Prim.Native.Nat.{ℕ, zero, suc, _+_, _*_, _/_, _%_, min}
-use mathlib.Core.Bool.{Bool, true, false, cond}
+use mathlib.Core.Bool.{cond}
 use mathlib.Core.List.{List, [], _∷_}
 use mathlib.Core.Option.{Option, none, some}
 use lib.Dec.{ltb, eqb}

@@ -1,7 +1,7 @@
 -- The opening of a network from a list of node numbers, two a link.
 use Prim.Native.Nat.{ℕ, zero, suc, _*_, _/_, _%_, _<_}
 use mathlib.Core.Bool.{Bool, true, false, not, cond, _&&_}
-use mathlib.Core.List.{List, [], _∷_}
+use mathlib.Core.List.{List, []}
 use lib.Dec.{ltb, eqb}
 use lib.ListN.{length, getD}
 use Rattle.model.specs.Answers as answers

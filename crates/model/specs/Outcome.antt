@@ -8,7 +8,7 @@ use Rattle.model.specs.declared.Went.{Went}
 use Rattle.model.specs.declared.Went.the-variants as went
 use Rattle.model.specs.Limits.{eventsMost}
 use Rattle.model.specs.Answers as answers
-use Rattle.model.specs.State.{State, Counts}
+use Rattle.model.specs.State.{State}
 use Rattle.model.specs.Formed.{wellFormed}
 use Rattle.model.specs.Departure.{update, door, pass}
 

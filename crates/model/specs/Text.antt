@@ -3,10 +3,10 @@ use Prim.Native.Nat.{ℕ, zero, suc, _+_, _/_, _%_}
 use Prim.Native.Char.{code}
 use Prim.Native.String as text
 use Prim.Native.String.{String}
-use mathlib.Core.Bool.{Bool, true, false, cond}
+use mathlib.Core.Bool.{true, false, cond}
 use mathlib.Core.List.{List, [], _∷_, _++_}
 use mathlib.Core.Option.{Option, none, some}
-use lib.Dec.{ltb, leb}
+use lib.Dec.{ltb}
 use lib.ListN.{length}
 use Rattle.model.specs.declared.Handled.{Handled}
 use Rattle.model.specs.declared.Handled.the-variants.{Packet, Nothing}
@@ -15,7 +15,7 @@ use Rattle.model.specs.declared.Went.the-variants.{Lane, Delivered, Lost
 use Rattle.model.specs.Limits.{fileMost}
 use Rattle.model.specs.Answers as answers
 use Rattle.model.specs.Below.{tab}
-use Rattle.model.specs.State.{State, Counts}
+use Rattle.model.specs.State.{State}
 use Rattle.model.specs.Outcome.{Outcome}
 use Rattle.model.specs.Events.{Event, event}
 use Rattle.model.specs.History.{after}

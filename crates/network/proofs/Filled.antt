@@ -1,24 +1,23 @@
 -- The record that an opening fills, as its reader sees it. Assumes nothing.
-use Prim.Native.Nat.{ℕ, zero, suc, _+_, _*_, _%_, _≤_, _<_}
+use Prim.Native.Nat.{ℕ, zero, suc, _*_, _%_, _≤_, _<_}
 use native.Mathlib.Omega.{arith}
 use mathlib.Core.Path.{_≡_, refl, sym, ap, _∙_}
-use mathlib.Core.Logic.{inl, inr}
-use mathlib.Core.Bool.{Bool, true, false, cond, _&&_}
+use mathlib.Core.Bool.{Bool, true, false, _&&_}
 use mathlib.Core.List.{List, []}
 use lib.Dec.{ltb, eqb}
-use lib.ListN.{length, getD, set, replicate, List·getD-eq-default}
-use borrow.Author.Tests.{lt-ltb, le-ltb, ltb-true, ltb-false}
+use lib.ListN.{length, getD, replicate, List·getD-eq-default}
+use borrow.Author.Tests.{lt-ltb, le-ltb}
 use Rattle.model.specs.Limits.{nodesMost, linksMost, endsMost}
 use Rattle.model.specs.Below.{tab}
 use Rattle.model.specs.State.{Ends, Counts}
 use Rattle.model.specs.Opening.{nodeIn, linksIn, opened}
-use Rattle.model.proofs.Below.{look, tab-at}
+use Rattle.model.proofs.Below.{tab-at}
 use Rattle.network.specs.declared.record.Network.{Network}
 use Rattle.arrays.specs.View.{used, netOf, endsOf, packetAt, stateOf}
 use Rattle.network.specs.View.{view}
 use Rattle.arrays.specs.Flight.{slots}
 use Rattle.network.specs.Opening.{loneNetwork}
-use Rattle.arrays.proofs.Below.{tab-replicate, tab-same, set-tab, used-is}
+use Rattle.arrays.proofs.Below.{used-is}
 
 abbrev none : Counts
 none = record { events = 0; admitted = 0; delivered = 0; lost = 0; stranded = 0 }

@@ -1,9 +1,8 @@
 -- What an opening gives, by its tests. Assumes nothing.
-use Prim.Native.Nat.{ℕ, suc, _+_, _-_, _*_, _/_, _%_, _≤_, _<_}
+use Prim.Native.Nat.{ℕ, _+_, _-_, _*_, _/_, _%_, _≤_, _<_}
 use native.Mathlib.Omega.{arith}
-use native.Mathlib.Numerals.{add-one}
-use native.Mathlib.Nat.{add-zero, sub-zero}
-use mathlib.Core.Path.{_≡_, refl, sym, ap, _∙_, subst}
+use native.Mathlib.Nat.{add-zero}
+use mathlib.Core.Path.{_≡_, refl, ap, _∙_, subst}
 use mathlib.Core.Logic.{_⊎_, inl, inr}
 use mathlib.Core.Bool.{Bool, true, false, not, _&&_}
 use mathlib.Core.List.{List}
@@ -11,8 +10,6 @@ use lib.Dec.{ltb, eqb}
 use lib.ListN.{length, List·getD-eq-default}
 use borrow.Author.Tests.{lt-ltb, le-ltb, ltb-true, ltb-false, leb-true, eqb-true, eqb-false}
 use Rattle.model.specs.Limits.{nodesMost, linksMost}
-use Rattle.model.specs.Below.{first}
-use Rattle.model.specs.State.{end}
 use Rattle.model.specs.Formed.{sized, joins}
 use Rattle.model.specs.Answers as answers
 use Rattle.model.specs.Opening.{nodeIn, linksIn, opened, holdsClosedWalk, firstBadLink, refuseOpening, openFrom}

@@ -1,18 +1,13 @@
 -- A run of the code is a history of its events. Assumes nothing.
 use Prim.Native.Nat.{ℕ, zero, suc}
 use mathlib.Core.Path.{_≡_, refl, sym, ap, _∙_, subst}
-use mathlib.Core.Bool.{Bool, true, false}
 use mathlib.Core.List.{List, [], _∷_, _++_}
 use mathlib.Core.Option.{Option, none, some}
 use lib.ListN.{getD}
 use Rattle.model.specs.Answers as answers
 use Rattle.model.specs.State.{State}
-use Rattle.model.specs.Outcome.{Outcome, refuse, accepting}
-use Rattle.model.specs.Opening.{Opening, openFrom}
-use Rattle.model.specs.Send.{sendTo}
-use Rattle.model.specs.Deliver.{deliverOn}
-use Rattle.model.specs.Lose.{loseOn}
-use Rattle.model.specs.Fail.{failOf}
+use Rattle.model.specs.Outcome.{Outcome}
+use Rattle.model.specs.Opening.{Opening}
 use Rattle.model.specs.Events.{Event, send, deliver, lose, fail, event}
 use Rattle.model.specs.File.{ofKind}
 use Rattle.model.specs.History.{History, start, next}
@@ -21,7 +16,7 @@ use Rattle.network.specs.declared.record.Network.{Network}
 use Rattle.network.specs.View.{view}
 use Rattle.steps.specs.Call.{made, call}
 use Rattle.bursts.specs.Bursts.{calls}
-use Rattle.network.specs.Runs.{eventIf, eventsIn, Run, opened, sent, delivered, lost, failed, applied, burst, eventsOf, Kept, CodeKeeps}
+use Rattle.network.specs.Runs.{eventIf, eventsIn, Run, opened, sent, delivered, lost, failed, applied, burst, eventsOf, CodeKeeps}
 use Rattle.steps.proofs.Calls.{none-kept}
 
 record Past (s : State) (es : List Event) : Type 0 where

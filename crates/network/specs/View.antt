@@ -1,5 +1,4 @@
 -- What a reader sees of a record: the entries in use, and nothing past them.
-use Prim.Native.Nat.{ℕ}
 use Rattle.model.specs.Below.{tab}
 use Rattle.model.specs.State.{State}
 use Rattle.network.specs.declared.record.Network.{Network}

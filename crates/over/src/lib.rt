@@ -3,15 +3,12 @@
 use arrays::SLOTS;
 use arrays::Tally;
 ghost use mathlib.Core.Path.{_≡_};
-ghost use mathlib.Core.Bool.{false, not, _&&_, _||_};
-ghost use mathlib.Core.List.{[]};
-ghost use Prim.Native.Nat.{ℕ, _+_, _*_, _≤_, _<_};
+ghost use mathlib.Core.Bool.{false, not, _&&_};
+ghost use Prim.Native.Nat.{_+_, _*_, _≤_, _<_};
 ghost use lib.Dec.{leb, ltb, eqb};
 ghost use lib.ListN.{getD};
 ghost use Rattle.model.specs.Limits.{nodesMost, linksMost, endsMost, flightMost};
-ghost use Rattle.model.specs.Below.{any, tab};
-ghost use Rattle.model.specs.Formed.{wellFormed};
-ghost use Rattle.arrays.specs.View.{netOf, endsOf, packetAt, countsOf, stateOf};
+ghost use Rattle.model.specs.Below.{any};
 ghost use Rattle.over.specs.Formed.{tallied};
 
 // Some end is at no node: by how much its number exceeds the last is one vector instruction.

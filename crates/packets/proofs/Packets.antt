@@ -1,15 +1,15 @@
 -- The packets in flight as a list: put in, taken out, kept. Assumes nothing.
-use Prim.Native.Nat.{ℕ, zero, suc, _+_, _-_, _/_, _≤_, _<_}
+use Prim.Native.Nat.{ℕ, zero, suc, _+_, _-_, _≤_, _<_}
 use native.Mathlib.Omega.{arith}
 use native.Mathlib.Numerals.{add-one}
 use mathlib.Core.Path.{_≡_, refl, sym, ap, ap₂, _∙_}
-use mathlib.Core.Logic.{_⊎_, inl, inr}
+use mathlib.Core.Logic.{inl, inr}
 use mathlib.Core.Bool.{Bool, true, false, cond}
 use mathlib.Core.List.{List, [], _∷_, _++_}
 use lib.Dec.{ltb, leb, eqb, leb·suc-suc}
 use lib.ListN.{length, getD, set, length-set}
 use lib.Seq.{getD-set-same, getD-set-other}
-use borrow.Author.Tests.{lt-ltb, le-ltb, ltb-true, ltb-false, eqb-true, eqb-false, eq-eqb, ne-eqb}
+use borrow.Author.Tests.{lt-ltb, le-ltb, eq-eqb, ne-eqb}
 use Rattle.model.specs.Limits.{flightMost}
 use Rattle.model.specs.Below.{first, tab}
 use Rattle.model.specs.State.{Packet, linkOf}
@@ -18,8 +18,8 @@ use Rattle.model.specs.Fail.{off}
 use Rattle.model.proofs.Below.{look}
 use Rattle.arrays.proofs.Searches.{first-least}
 use Rattle.arrays.specs.View.{packetAt}
-use Rattle.arrays.specs.Flight.{slots, Slots, packets}
-use Rattle.arrays.proofs.Below.{length-tab, tab-same}
+use Rattle.arrays.specs.Flight.{Slots, packets}
+use Rattle.arrays.proofs.Below.{tab-same}
 use Rattle.packets.specs.Moves.{Removed}
 
 -- ---- lists of a function's values

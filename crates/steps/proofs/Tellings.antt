@@ -1,9 +1,9 @@
 -- What the packets tell an event of each kind, and where they are after it. Assumes nothing.
 use Prim.Native.Nat.{ℕ, _-_, _≤_, _<_}
 use native.Mathlib.Omega.{arith}
-use mathlib.Core.Path.{_≡_, refl, sym, ap, _∙_}
+use mathlib.Core.Path.{_≡_, refl, ap}
 use mathlib.Core.Logic.{inl, inr}
-use mathlib.Core.Bool.{Bool, true, false}
+use mathlib.Core.Bool.{Bool, true}
 use mathlib.Core.List.{List, [], _∷_}
 use lib.Dec.{eqb}
 use lib.ListN.{length}
@@ -13,10 +13,10 @@ use Rattle.model.specs.declared.Handled.the-variants as handled
 use Rattle.model.specs.declared.Went.{Went}
 use Rattle.model.specs.declared.Went.the-variants as went
 use Rattle.model.specs.State.{Packet}
-use Rattle.model.specs.Lanes.{onLane, less}
+use Rattle.model.specs.Lanes.{onLane}
 use Rattle.model.specs.Fail.{off}
 use Rattle.model.proofs.Below.{look, clash}
-use Rattle.model.proofs.Lanes.{less-length, off-length}
+use Rattle.model.proofs.Lanes.{less-length}
 use Rattle.arrays.specs.declared.Told.{Told}
 use Rattle.arrays.specs.Told.{oldestIn, tells, without, cleared, passed, flies}
 

@@ -3,12 +3,12 @@ use arrays::BLOCK;
 ghost use mathlib.Core.Path.{_≡_};
 ghost use mathlib.Core.Bool.{false, _&&_};
 ghost use mathlib.Core.List.{[]};
-ghost use Prim.Native.Nat.{ℕ, suc, _+_, _-_, _*_, _≤_, _<_};
+ghost use Prim.Native.Nat.{_+_, _-_, _*_, _≤_, _<_};
 ghost use lib.Dec.{eqb};
 ghost use lib.ListN.{getD};
-ghost use Rattle.model.specs.Limits.{linksMost, endsMost, nodesMost, flightMost};
+ghost use Rattle.model.specs.Limits.{linksMost, endsMost};
 ghost use Rattle.model.specs.Below.{any, first};
-ghost use Rattle.model.specs.Departure.{outAt, hasLive, hasMark};
+ghost use Rattle.model.specs.Departure.{outAt, hasLive};
 ghost use Rattle.arrays.specs.View.{endsSeen};
 
 // Whether some end of the block is Out and at the node.

@@ -1,7 +1,7 @@
 -- No call so far was accepted. Assumes nothing.
 use Prim.Native.Nat.{_≤_, _-_}
 use native.Mathlib.Omega.{arith}
-use mathlib.Core.Path.{_≡_, refl, sym, ap}
+use mathlib.Core.Path.{_≡_, sym, ap}
 use mathlib.Core.Bool.{false, not}
 use lib.Dec.{eqb}
 use lib.ListN.{getD}

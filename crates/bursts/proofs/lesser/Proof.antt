@@ -1,8 +1,5 @@
 -- The test. Assumes nothing.
-use mathlib.Core.Path.{_≡_, sym, ap}
-use mathlib.Core.Bool.{cond}
 use borrow.Author.Tests.{lt-ltb, le-ltb}
-use Rattle.bursts.specs.Bursts.{least}
 use Rattle.bursts.proofs.lesser.Statement.{statement}
 use Rattle.bursts.proofs.lesser.Tie as tie
 

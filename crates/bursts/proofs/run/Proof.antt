@@ -1,10 +1,10 @@
 -- The calls passed have been made. Assumes nothing.
-use Prim.Native.Nat.{ℕ, _+_, _-_, _*_, _≤_, _<_}
+use Prim.Native.Nat.{_-_, _≤_, _<_}
 use native.Mathlib.Omega.{arith}
-use mathlib.Core.Path.{_≡_, refl, sym, ap, _∙_}
-use mathlib.Core.Bool.{Bool, true}
+use mathlib.Core.Path.{_≡_, sym, ap, _∙_}
+use mathlib.Core.Bool.{true}
 use mathlib.Core.List.{List}
-use lib.ListN.{length, getD}
+use lib.ListN.{getD}
 use denote.Ref.{now}
 use borrow.Author.Needs.{needs}
 use Rattle.model.specs.State.{Packet, State}
@@ -17,7 +17,7 @@ use Rattle.steps.specs.Call.{call}
 use Rattle.departs.specs.Steps.{stateWith, outcomeOf}
 use Rattle.steps.proofs.Calls.{call-lane}
 use Rattle.steps.proofs.Tellings.{tells-there, tells-gone}
-use Rattle.bursts.specs.Bursts.{calls, Lists}
+use Rattle.bursts.specs.Bursts.{calls}
 use Rattle.bursts.proofs.Bursts.{ran-none}
 use Rattle.bursts.proofs.Going.{Going, still-formed, few-going, going-sound, going-moved, going-on}
 use Rattle.bursts.proofs.run.Statement.{statement}

@@ -1,11 +1,9 @@
 -- Of the packets passed, those off the link are kept. Assumes nothing.
-use Prim.Native.Nat.{_+_, _-_, _*_, _≤_, _<_}
+use Prim.Native.Nat.{_-_, _≤_}
 use native.Mathlib.Omega.{arith}
-use mathlib.Core.Path.{_≡_, refl, sym, _∙_}
+use mathlib.Core.Path.{_≡_}
 use denote.Ref.{now}
 use Rattle.packets.proofs.Packets.{Kept, kept-none, kept-gone, kept-stays}
-use mathlib.Core.Path.{ap}
-use Prim.Native.Nat.{_/_}
 use borrow.Author.Needs.{needs}
 use Rattle.packets.proofs.list.keep_off.Statement.{statement}
 use Rattle.packets.proofs.list.keep_off.Tie as tie

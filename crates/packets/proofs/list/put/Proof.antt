@@ -1,7 +1,6 @@
 -- Three stores. Assumes nothing.
-use Prim.Native.Nat.{_+_, _-_, _*_, _≤_, _<_}
-use native.Mathlib.Omega.{arith}
-use mathlib.Core.Path.{_≡_, refl, sym, _∙_}
+use Prim.Native.Nat.{_-_}
+use mathlib.Core.Path.{_∙_}
 use denote.Ref.{now}
 use lib.ListN.{length-set}
 use Rattle.packets.proofs.Packets.{put-in}

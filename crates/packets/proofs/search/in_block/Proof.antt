@@ -1,7 +1,7 @@
 -- The packets passed are those that were tested. Assumes nothing.
-use Prim.Native.Nat.{_+_, _-_, _*_, _≤_, _<_}
+use Prim.Native.Nat.{_+_, _-_, _≤_}
 use native.Mathlib.Omega.{arith}
-use mathlib.Core.Path.{_≡_, sym, _∙_}
+use mathlib.Core.Path.{_≡_, sym}
 use lib.Dec.{eqb}
 use lib.ListN.{getD}
 use mathlib.Core.Path.{refl}

@@ -1,10 +1,9 @@
 -- The blocks passed hold no packet of the lane. Assumes nothing.
-use Prim.Native.Nat.{_+_, _-_, _*_, _≤_, _<_, min}
+use Prim.Native.Nat.{_-_, min}
 use native.Mathlib.Omega.{arith}
 use mathlib.Core.Path.{_≡_, sym, _∙_}
 use lib.Dec.{eqb}
 use lib.ListN.{getD}
-use denote.Ref.{now}
 use Rattle.model.specs.Below.{first}
 use Rattle.arrays.proofs.Searches.{first-start, first-block, first-end}
 use borrow.Author.Needs.{needs}

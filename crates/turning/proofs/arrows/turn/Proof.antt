@@ -1,8 +1,5 @@
 -- The marks are looked at first. Assumes nothing.
-use Prim.Native.Nat.{_+_, _-_, _*_, _≤_, _<_}
-use native.Mathlib.Omega.{arith}
-use mathlib.Core.Path.{_≡_, sym, _∙_}
-use denote.Ref.{now}
+use Prim.Native.Nat.{_-_}
 use mathlib.Core.Path.{refl, ap}
 use mathlib.Core.Bool.{not}
 use Rattle.model.specs.Departure.{hasMark}

@@ -1,9 +1,8 @@
 -- The ends from x on are threaded. Assumes nothing.
-use Prim.Native.Nat.{_+_, _-_, _*_, _≤_, _<_}
+use Prim.Native.Nat.{_+_, _-_, _*_, _≤_}
 use native.Mathlib.Omega.{arith}
-use mathlib.Core.Path.{_≡_, sym, _∙_}
-use lib.ListN.{length, getD, set, length-set, getD-replicate}
-use mathlib.Core.Path.{subst₂}
+use mathlib.Core.Path.{_≡_}
+use lib.ListN.{length, length-set, getD-replicate}
 use denote.Ref.{now}
 use Rattle.model.specs.Limits.{nodesMost, endsMost}
 use Rattle.ways.proofs.Chains.{Threaded, threaded-none, threaded-more, threaded-all}

@@ -1,10 +1,8 @@
 -- Nothing is found before the end that is looked at. Assumes nothing.
-use Prim.Native.Nat.{_+_, _-_, _*_, _≤_, _<_}
+use Prim.Native.Nat.{_-_, _*_}
 use native.Mathlib.Omega.{arith}
-use mathlib.Core.Path.{_≡_, sym, _∙_}
-use mathlib.Core.List.{[]}
 use denote.Ref.{now}
-use borrow.Author.Tests.{not-true, not-false}
+use borrow.Author.Tests.{not-false}
 use Rattle.ways.proofs.Chains.{Walked, walked-start, walked-next, walked-on, walked-found, walked-end}
 use borrow.Author.Needs.{needs}
 use Rattle.ways.proofs.chain.way.Statement.{statement}

@@ -1,8 +1,7 @@
 -- The ends passed are those that were tested. Assumes nothing.
-use Prim.Native.Nat.{_+_, _-_, _*_, _≤_, _<_}
+use Prim.Native.Nat.{_-_, _*_, _≤_}
 use native.Mathlib.Omega.{arith}
-use mathlib.Core.Path.{_≡_, sym, _∙_}
-use mathlib.Core.Bool.{Bool}
+use mathlib.Core.Path.{_≡_, sym}
 use mathlib.Core.List.{[]}
 use denote.Ref.{now}
 use Rattle.model.specs.Below.{any}
