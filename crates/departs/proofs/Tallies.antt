@@ -15,11 +15,11 @@ use Rattle.arrays.specs.declared.Tally.{Tally}
 use Rattle.arrays.specs.Told.{passedBy, passed}
 use Rattle.arrays.proofs.Below.{used-in}
 use Rattle.departs.specs.declared.tally.Step.{Step}
-use Rattle.departs.specs.Steps.{stateWith, outcomeOf, tallied, Still}
+use Rattle.departs.specs.Steps.{stateWith, outcomeOf, tallyAfter, Still}
 
 module _ (node : List ℕ) (live out local remote mark : List Bool) (turns : List ℕ) (nodes destination links : ℕ) (flight : List Packet) where
   -- counted, the packets in flight apart
-  pub counted-is : (t : Tally) {t′ : Tally} (k admitted delivered lost stranded : ℕ) → t′ ≡ tallied t k admitted delivered lost stranded
+  pub counted-is : (t : Tally) {t′ : Tally} (k admitted delivered lost stranded : ℕ) → t′ ≡ tallyAfter t k admitted delivered lost stranded
       → stateWith node live out local remote mark turns nodes destination links flight t′
       ≡ counted (stateWith node live out local remote mark turns nodes destination links flight t) admitted delivered lost stranded
   unfolding counted

@@ -57,8 +57,8 @@ pub record Fair (t : Tally) : Type 0 where
   pub stranded : t .stranded ≤ eventsMost
 
 -- an event more, with so many packets in flight
-abbrev pub tallied : Tally → ℕ → ℕ → ℕ → ℕ → ℕ → Tally
-tallied t flying admitted delivered lost stranded =
+abbrev pub tallyAfter : Tally → ℕ → ℕ → ℕ → ℕ → ℕ → Tally
+tallyAfter t flying admitted delivered lost stranded =
     record {
       flying = flying;
       events = t .events + 1;

@@ -5,7 +5,7 @@ use model::Went;
 ghost use mathlib.Core.Path.{_≡_};
 ghost use Prim.Native.Nat.{_≤_};
 ghost use Rattle.model.specs.Limits.{eventsMost};
-ghost use Rattle.departs.specs.Steps.{Fair, tallied};
+ghost use Rattle.departs.specs.Steps.{Fair, tallyAfter};
 
 // What an event gives beside the arrays that it changed.
 pub struct Step {
@@ -25,7 +25,7 @@ pub fn counted(
     stranded: u32,
 ) -> Tally
     requires { ⌜ Fair t × (admitted ≤ eventsMost) × (delivered ≤ eventsMost) × (lost ≤ eventsMost) × (stranded ≤ eventsMost) ⌝ }
-    ensures { λ r. ⌜ r ≡ tallied t flying admitted delivered lost stranded ⌝ }
+    ensures { λ r. ⌜ r ≡ tallyAfter t flying admitted delivered lost stranded ⌝ }
 {
     let events = t.events;
     let a = t.admitted;
