@@ -1,5 +1,4 @@
 // The events of a drill file, each by a single call in place: a sum of what they gave, for the benchmark.
-use drillfile::Cursor;
 use drillfile::Got;
 use libc::STDIN_FILENO;
 use libc::STDOUT_FILENO;
@@ -79,7 +78,7 @@ fn calls(file: &[u8], from: usize, opened: Network) -> usize {
             kind,
             argument,
             next,
-        } = drillfile::read_event(file, Cursor { at })
+        } = reader::next_at(file, at)
         else {
             return sum;
         };
@@ -114,7 +113,7 @@ fn calls(file: &[u8], from: usize, opened: Network) -> usize {
 fn main() {
     let mut file = input();
     let length = io::read_full(STDIN_FILENO, &mut file);
-    let header = drillfile::read_header(&file[..length], Cursor { at: 0 });
+    let header = reader::header_of(&file[..length]);
     let next = header.next;
     let sum = calls(&file[..length], next.at, header.network);
     io::print_decimal(STDOUT_FILENO, sum as u64);
