@@ -11,7 +11,7 @@ use Rattle.arrays.specs.declared.Tally.{Tally}
 use Rattle.arrays.specs.View.{packetAt}
 use Rattle.arrays.specs.Flight.{packets}
 use Rattle.queues.specs.Queue.{standing, flown}
-use Rattle.queues.proofs.Gathered.{standing-all}
+use Rattle.slots.proofs.Gathered.{standing-all}
 use Rattle.departs.specs.Steps.{stateWith}
 use Rattle.departs.proofs.Sounds.{few-fly}
 use Rattle.lent.proofs.InPlace.{lanes-named as on-lanes}

@@ -3,5 +3,3 @@ pub mod Takes
 pub mod Pushes
 pub mod Cuts
 pub mod Oldest
-pub mod Gathered
-pub mod Threads

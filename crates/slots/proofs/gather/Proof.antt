@@ -4,12 +4,12 @@ use native.Mathlib.Omega.{arith}
 use mathlib.Core.Path.{_≡_}
 use denote.Ref.{now}
 use Rattle.model.specs.Limits.{flightMost}
-use Rattle.queues.proofs.Gathered.{Gathered, gathered-none, gathered-many, gathered-gone, gathered-room, gathered-stays}
+use Rattle.slots.proofs.Gathered.{Gathered, gathered-none, gathered-many, gathered-gone, gathered-room, gathered-stays}
 use borrow.Author.Needs.{needs}
-use Rattle.queues.proofs.slots.gather.Statement.{statement}
-use Rattle.queues.proofs.slots.gather.Tie as tie
-use Rattle.queues.proofs.slots.gather.Reads as reads
-use Rattle.queues.proofs.slots.gather.Lts as lts
+use Rattle.slots.proofs.gather.Statement.{statement}
+use Rattle.slots.proofs.gather.Tie as tie
+use Rattle.slots.proofs.gather.Reads as reads
+use Rattle.slots.proofs.gather.Lts as lts
 
 abbrev Inv-loop : tie.InvT-loop
 Inv-loop numbers lanes bits number₀ lane₀ bit₀ used w₀ i₀ number lane bit w i = (i ≤ used) × Gathered numbers lanes bits i w number lane bit

@@ -6,12 +6,12 @@ use denote.Ref.{now}
 use mathlib.Core.Logic.{inl, inr}
 use lib.ListN.{getD}
 use Rattle.model.specs.Limits.{endsMost}
-use Rattle.queues.proofs.Threads.{Threading, threading-none, threading-on, threading-first, threading-all}
+use Rattle.slots.proofs.Threads.{Threading, threading-none, threading-on, threading-first, threading-all}
 use borrow.Author.Needs.{needs}
-use Rattle.queues.proofs.slots.thread_lanes.Statement.{statement}
-use Rattle.queues.proofs.slots.thread_lanes.Tie as tie
-use Rattle.queues.proofs.slots.thread_lanes.Reads as reads
-use Rattle.queues.proofs.slots.thread_lanes.Lts as lts
+use Rattle.slots.proofs.thread_lanes.Statement.{statement}
+use Rattle.slots.proofs.thread_lanes.Tie as tie
+use Rattle.slots.proofs.thread_lanes.Reads as reads
+use Rattle.slots.proofs.thread_lanes.Lts as lts
 use Rattle.arrays.proofs.wide.Reads as wide-reads
 
 abbrev Inv-loop : tie.InvT-loop

@@ -1,14 +1,15 @@
 // The packets of a record into the slots of a burst, and those that still stand back again.
-use crate::queue::NO_LANE;
-use crate::queue::ROOM;
+// Public for `queued` and `network` alone, so these functions may require what the check has told: docs/EXCEPTIONS.md.
 use arrays::SLOTS;
 use arrays::wide;
+use queues::NO_LANE;
+use queues::ROOM;
 ghost use mathlib.Core.Path.{_≡_};
 ghost use Prim.Native.Nat.{ℕ, _≤_, _<_};
 ghost use lib.ListN.{length, getD};
 ghost use Rattle.model.specs.Limits.{endsMost, flightMost};
 ghost use Rattle.arrays.specs.Flight.{Slots, packets};
 ghost use Rattle.queues.specs.Queue.{room, flown, Roomy, Queued};
 
 // The packets of a record, slot by slot.
 pub fn spread<'a>(

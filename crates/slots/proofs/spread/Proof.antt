@@ -3,10 +3,10 @@ use Prim.Native.Nat.{_-_, _≤_}
 use native.Mathlib.Omega.{arith}
 use mathlib.Core.Path.{_≡_}
 use denote.Ref.{now}
-use Rattle.queues.proofs.Gathered.{Spread, spread-none, spread-more}
+use Rattle.slots.proofs.Gathered.{Spread, spread-none, spread-more}
 use borrow.Author.Needs.{needs}
-use Rattle.queues.proofs.slots.spread.Statement.{statement}
-use Rattle.queues.proofs.slots.spread.Tie as tie
+use Rattle.slots.proofs.spread.Statement.{statement}
+use Rattle.slots.proofs.spread.Tie as tie
 
 abbrev Inv-loop : tie.InvT-loop
 Inv-loop number lane bit numbers₀ lanes₀ bits₀ flying i₀ numbers lanes bits i = (i ≤ flying) × Spread number lane bit i numbers lanes bits

@@ -4,10 +4,10 @@ use native.Mathlib.Omega.{arith}
 use mathlib.Core.Path.{_≡_}
 use denote.Ref.{now}
 use Rattle.model.specs.Limits.{endsMost}
-use Rattle.queues.proofs.Threads.{Cleared, cleared-none, cleared-more}
+use Rattle.slots.proofs.Threads.{Cleared, cleared-none, cleared-more}
 use borrow.Author.Needs.{needs}
-use Rattle.queues.proofs.slots.clear.Statement.{statement}
-use Rattle.queues.proofs.slots.clear.Tie as tie
+use Rattle.slots.proofs.clear.Statement.{statement}
+use Rattle.slots.proofs.clear.Tie as tie
 
 abbrev Inv-loop : tie.InvT-loop
 Inv-loop first₀ x₀ first x = (x ≤ endsMost) × Cleared x first

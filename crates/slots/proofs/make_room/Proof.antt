@@ -1,10 +1,10 @@
 -- Those that stand are gathered, spread over the first slots and put into queues again. Assumes nothing.
 use native.Mathlib.Omega.{arith}
 use denote.Ref.{now}
-use Rattle.queues.proofs.Gathered.{gathered-named, spread-again}
+use Rattle.slots.proofs.Gathered.{gathered-named, spread-again}
 use borrow.Author.Needs.{needs}
-use Rattle.queues.proofs.slots.make_room.Statement.{statement}
-use Rattle.queues.proofs.slots.make_room.Tie as tie
+use Rattle.slots.proofs.make_room.Statement.{statement}
+use Rattle.slots.proofs.make_room.Tie as tie
 
 gather-requires : tie.Need-gather-requires
 gather-requires c κs = search needs
