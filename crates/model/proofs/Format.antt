@@ -7,7 +7,7 @@ use mathlib.Core.Bool.{true, false, _&&_}
 use mathlib.Core.List.{List, [], _∷_, _++_, append-assoc}
 use mathlib.Core.Option.{none, some}
 use lib.Dec.{ltb, leb, eqb}
-use lib.ListN.{length, getD, drop, length-append}
+use lib.ListN.{length, getD, length-append}
 use borrow.Author.Tests.{le-leb, leb-true, eqb-true, eqb-false, ltb-true, not-false}
 use Rattle.model.specs.Limits.{nodesMost, linksMost, numberMost}
 use Rattle.model.specs.Answers as answers
@@ -26,9 +26,6 @@ use Rattle.model.proofs.Numbers.{never, number-long}
 abbrev pub Small : List ℕ → Type 0
 Small [] = Unit {0}
 Small (n ∷ ns) = (n ≤ numberMost) × Small ns
-
-abbrev numbers-at : List ℕ → ℕ → List ℕ → ℕ → Type 0
-numbers-at file at ns next = drop at file ≡ numbersBytes ns ++ drop next file
 
 pub numbers-cons : (n : ℕ) (ns : List ℕ) → numbersBytes (n ∷ ns) ≡ numberBytes n ++ numbersBytes ns
 unfolding numbersBytes

@@ -1,11 +1,8 @@
 -- What a reader sees of a record is what its arrays and counts show. Assumes nothing.
-use mathlib.Core.Path.{_≡_, ap}
+use mathlib.Core.Path.{_≡_}
 use mathlib.Core.Bool.{Bool}
 use Rattle.model.specs.Formed.{wellFormed}
-use Rattle.arrays.specs.declared.Tally.{Tally}
-use Rattle.arrays.specs.Flight.{packets}
 use Rattle.formed.proofs.WellFormed.{shown}
-use Rattle.departs.specs.Steps.{stateWith}
 use Rattle.lent.specs.Lent.{Arrays}
 use Rattle.lent.proofs.InPlace.{of-check}
 use Rattle.network.specs.declared.record.Network.{Network}
@@ -30,9 +27,3 @@ pub of-view : (n : Network) {r : Bool}
     → r ≡ wellFormed (shown (n .node) (n .live) (n .out) (n .mark) (n .turns) (n .number) (n .lane) (n .nodes) (n .destination) (n .links) (tallyOf n))
     → r ≡ wellFormed (view n)
 of-view n e = of-check (n .node) (n .nodes) (n .destination) (n .links) (arraysOf n) (tallyOf n) e
-
--- the arrays, the packets and the counts of a record are what a reader sees of it
-pub seen-by : (n : Network) {t : Tally} → t ≡ tallyOf n
-    → stateWith (n .node) (n .live) (n .out) (n .local) (n .remote) (n .mark) (n .turns) (n .nodes) (n .destination) (n .links) (packets (n .number) (n .lane) (n .bit) (n .flying)) t ≡ view n
-seen-by n e =
-    ap (λ (t : Tally). stateWith (n .node) (n .live) (n .out) (n .local) (n .remote) (n .mark) (n .turns) (n .nodes) (n .destination) (n .links) (packets (n .number) (n .lane) (n .bit) (n .flying)) t) e

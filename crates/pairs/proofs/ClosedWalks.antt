@@ -26,9 +26,6 @@ module _ (list : List ℕ) (shorter : List Bool) where
   unfolding any
   leads-none = tab-replicate false nodesMost
 
-  or-here : (a b : Bool) → (a || b) ≡ (a || (true && b))
-  or-here a b = refl
-
   or-else : (a b : Bool) → a ≡ (a || (false && b))
   or-else true b = refl
   or-else false b = refl

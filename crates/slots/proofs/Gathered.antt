@@ -38,18 +38,6 @@ standing-all p (suc k) h =
     rw (ne-eqb (p 0 .lane) noLane (λ e. omega (arith, h 0 (omega arith), e)))
     (ap (λ l. p 0 ∷ l) (standing-all (λ i. p (suc i)) k (λ i l. h (suc i) (omega arith))))
 
-standing-most : (p : ℕ → Packet) (k : ℕ) → length (standing (tab p k)) ≤ k
-unfolding standing tab
-standing-most p zero = omega arith
-standing-most p (suc k) = elim (look (eqb (p 0 .lane) noLane)) [
-  | inl e ↦ rw e (omega (arith, standing-most (λ i. p (suc i)) k))
-  | inr e ↦ rw e (omega (arith, standing-most (λ i. p (suc i)) k))
-]
-
--- no more stand than slots are in use
-pub flown-most : (number lane : List ℕ) (bit : List Bool) (used : ℕ) → length (flown number lane bit used) ≤ used
-flown-most number lane bit used = standing-most (packetAt number lane bit) used
-
 standing-grows : (p : ℕ → Packet) (i k : ℕ) → i ≤ k → length (standing (tab p i)) ≤ length (standing (tab p k))
 unfolding standing tab
 standing-grows p zero k h = omega arith
