@@ -1,5 +1,7 @@
 // The arrays of a record: what they show a reader, and the numbers that stand in them.
 mod asked;
+pub mod kinds;
+pub mod limits;
 mod number;
 
 pub use asked::Asked;
