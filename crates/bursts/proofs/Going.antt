@@ -14,8 +14,8 @@ use Rattle.departs.specs.declared.tally.Step.{Step}
 use Rattle.steps.specs.Call.{call}
 use Rattle.departs.specs.Steps.{stateWith, outcomeOf, Whole, Sound}
 use Rattle.departs.proofs.Sounds.{sound-if, few-fly}
-use Rattle.bursts.specs.Bursts.{packetCode, wayCode}
-use Rattle.bursts.proofs.Bursts.{calls-keep, Ran, ran-more}
+use Rattle.notes.specs.Bursts.{packetCode, wayCode}
+use Rattle.notes.proofs.Bursts.{calls-keep, Ran, ran-more}
 
 module _ (node : List ℕ) (nodes destination links : ℕ) (s : State) (kinds arguments an₀ ps₀ ws₀ : List ℕ) where
   -- the state that the arrays and queues show

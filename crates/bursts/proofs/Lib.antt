@@ -1,3 +1,1 @@
-pub mod Bursts
 pub mod Going
-pub mod Refusals

@@ -17,8 +17,8 @@ use Rattle.departs.proofs.Sounds.{few-fly}
 use Rattle.lent.proofs.InPlace.{lanes-named as on-lanes}
 use Rattle.network.specs.declared.record.Network.{Network}
 use Rattle.network.specs.View.{tallyOf, view}
-use Rattle.bursts.specs.Bursts.{calls}
-use Rattle.bursts.proofs.Bursts.{calls-keep}
+use Rattle.notes.specs.Bursts.{calls}
+use Rattle.notes.proofs.Bursts.{calls-keep}
 use Rattle.network.proofs.Seen.{arraysOf}
 
 -- each packet in flight is on a lane

@@ -14,7 +14,7 @@ use Rattle.network.specs.declared.record.Moved.{Moved}
 use Rattle.network.specs.declared.record.Burst.{Burst}
 use Rattle.network.specs.View.{view}
 use Rattle.network.specs.Opening.{seenOpened}
-use Rattle.bursts.specs.Bursts.{calls, callAt, packetCode, wayCode, filled}
+use Rattle.notes.specs.Bursts.{calls, callAt, packetCode, wayCode, filled}
 use Rattle.network.specs.Calls.{seen, CallPost}
 use Rattle.network.proofs.record.Network.well_formed.Kinds as well-formed-kinds
 use Rattle.network.proofs.record.Network.well_formed.Reads as well-formed

@@ -15,7 +15,7 @@ use Rattle.model.proofs.Promises.{turns-bounded, turns-counted, ends-agree, fou
 use Rattle.network.specs.declared.record.Network.{Network}
 use Rattle.network.specs.View.{view}
 use Rattle.steps.specs.Call.{made, call}
-use Rattle.bursts.specs.Bursts.{calls}
+use Rattle.notes.specs.Bursts.{calls}
 use Rattle.network.specs.Runs.{eventIf, eventsIn, Run, opened, sent, delivered, lost, failed, applied, burst, eventsOf, CodeKeeps}
 use Rattle.steps.proofs.Calls.{none-kept}
 

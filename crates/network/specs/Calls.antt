@@ -4,7 +4,7 @@ use mathlib.Core.List.{List}
 use mathlib.Core.Path.{_≡_}
 use Rattle.model.specs.Answers as answers
 use Rattle.model.specs.Outcome.{Outcome}
-use Rattle.bursts.specs.Bursts.{calls, callAt, Lists, shortest}
+use Rattle.notes.specs.Bursts.{calls, callAt, Lists, shortest}
 use Rattle.network.specs.declared.record.Network.{Network}
 use Rattle.network.specs.declared.record.Moved.{Moved}
 use Rattle.network.specs.declared.record.Burst.{Burst}

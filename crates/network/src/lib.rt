@@ -3,15 +3,15 @@ mod opening;
 mod record;
 
 use arrays::Tally;
-use bursts::all_refused;
-use bursts::refuse_all;
 use bursts::run;
-use bursts::shortest;
 use formed::formed;
 use model::DELIVER;
 use model::FAIL;
 use model::LOSE;
 use model::SEND;
+use notes::all_refused;
+use notes::refuse_all;
+use notes::shortest;
 pub use opening::Opened;
 use pairs::closed_walk;
 use pairs::first_bad;

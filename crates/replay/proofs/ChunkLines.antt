@@ -25,8 +25,8 @@ use Rattle.model.proofs.Below.{look}
 use Rattle.model.proofs.Numbers.{never}
 use Rattle.model.proofs.Named.{few-lanes, named}
 use Rattle.steps.specs.Call.{made, call}
-use Rattle.bursts.specs.Bursts.{calls, callAt, packetCode, wayCode, least, Lists}
-use Rattle.bursts.proofs.Bursts.{filled-at, calls-keep}
+use Rattle.notes.specs.Bursts.{calls, callAt, packetCode, wayCode, least, Lists}
+use Rattle.notes.proofs.Bursts.{filled-at, calls-keep}
 use Rattle.letters.specs.Puts.{Room, Put}
 use Rattle.letters.specs.Digits.{joined}
 use Rattle.lines.specs.Codes.{packetWord, wayWord, codeLine}

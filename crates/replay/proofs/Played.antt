@@ -9,7 +9,7 @@ use Rattle.model.specs.Formed.{wellFormed}
 use Rattle.network.specs.declared.record.Network.{Network}
 use Rattle.network.specs.declared.record.Burst.{Burst}
 use Rattle.network.specs.View.{view}
-use Rattle.bursts.specs.Bursts.{calls}
+use Rattle.notes.specs.Bursts.{calls}
 use Rattle.network.specs.Calls.{BurstPost}
 use Rattle.replay.specs.ChunkLines.{codeLines, callLines}
 use Rattle.replay.specs.Chunks.{chunk}

@@ -15,8 +15,8 @@ use Rattle.model.proofs.Format.{sizes-small}
 use Rattle.model.proofs.Formed.{formed-if}
 use Rattle.network.specs.declared.record.Network.{Network}
 use Rattle.network.specs.View.{view}
-use Rattle.bursts.specs.Bursts.{calls}
-use Rattle.bursts.proofs.Bursts.{calls-keep}
+use Rattle.notes.specs.Bursts.{calls}
+use Rattle.notes.proofs.Bursts.{calls-keep}
 use Rattle.replay.specs.declared.play.Played.{Played}
 use Rattle.letters.specs.Puts.{Room}
 use Rattle.lines.specs.Lines.{endingOf}

@@ -14,7 +14,7 @@ use Rattle.model.specs.History.{after}
 use Rattle.model.specs.Text.{eventLine, eventLines, spoiltLine, totalLine, turnsLine, drillText}
 use Rattle.model.proofs.Format.{of-kind}
 use Rattle.steps.specs.Call.{made, call}
-use Rattle.bursts.specs.Bursts.{calls, callAt}
+use Rattle.notes.specs.Bursts.{calls, callAt}
 use Rattle.lines.specs.Lines.{endingOf}
 use Rattle.replay.specs.ChunkLines.{callLines}
 use Rattle.replay.specs.Chunks.{Stand, behind}

@@ -4,7 +4,7 @@ use mathlib.Core.List.{List, [], _++_}
 use lib.ListN.{getD}
 use Rattle.model.specs.State.{State}
 use Rattle.model.specs.Text.{eventLine}
-use Rattle.bursts.specs.Bursts.{callAt}
+use Rattle.notes.specs.Bursts.{callAt}
 use Rattle.lines.specs.Codes.{codeLine}
 
 -- the lines of k events from event i on

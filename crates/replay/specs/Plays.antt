@@ -7,7 +7,7 @@ use lib.ListN.{length}
 use Rattle.model.specs.Formed.{wellFormed}
 use Rattle.network.specs.declared.record.Network.{Network}
 use Rattle.network.specs.View.{view}
-use Rattle.bursts.specs.Bursts.{calls}
+use Rattle.notes.specs.Bursts.{calls}
 use Rattle.replay.specs.declared.play.Played.{Played}
 use Rattle.letters.specs.Puts.{Room, Put}
 use Rattle.replay.specs.ChunkLines.{callLines}

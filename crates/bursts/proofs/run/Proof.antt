@@ -17,8 +17,8 @@ use Rattle.steps.specs.Call.{call}
 use Rattle.departs.specs.Steps.{stateWith, outcomeOf}
 use Rattle.steps.proofs.Calls.{call-lane}
 use Rattle.steps.proofs.Tellings.{tells-there, tells-gone}
-use Rattle.bursts.specs.Bursts.{calls}
-use Rattle.bursts.proofs.Bursts.{ran-none}
+use Rattle.notes.specs.Bursts.{calls}
+use Rattle.notes.proofs.Bursts.{ran-none}
 use Rattle.bursts.proofs.Going.{Going, still-formed, few-going, going-sound, going-moved, going-on}
 use Rattle.bursts.proofs.run.Statement.{statement}
 use Rattle.bursts.proofs.run.Tie as tie

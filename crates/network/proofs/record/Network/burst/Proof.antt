@@ -21,9 +21,9 @@ use Rattle.departs.specs.Steps.{stateWith, Whole, Sound}
 use Rattle.departs.proofs.Sounds.{sound-if}
 use Rattle.network.specs.declared.record.Network.{Network}
 use Rattle.network.specs.View.{view, tallyOf}
-use Rattle.bursts.specs.Bursts.{calls}
-use Rattle.bursts.proofs.Bursts.{calls-same, shortest-is, given-by}
-use Rattle.bursts.proofs.Refusals.{all-refused, calls-refused, none-done, done-none}
+use Rattle.notes.specs.Bursts.{calls}
+use Rattle.notes.proofs.Bursts.{calls-same, shortest-is, given-by}
+use Rattle.notes.proofs.Refusals.{all-refused, calls-refused, none-done, done-none}
 use Rattle.network.proofs.InFlight.{lanes-named, spread-seen, few-after}
 use Rattle.network.proofs.record.Network.burst.Statement.{statement}
 use Rattle.network.proofs.record.Network.burst.Tie as tie

@@ -4,10 +4,10 @@ use native.Mathlib.Omega.{arith}
 use mathlib.Core.Path.{_≡_}
 use denote.Ref.{now}
 use Rattle.model.specs.Limits.{endsMost, eventsMost}
-use Rattle.bursts.proofs.Refusals.{Same, same-none, same-more}
+use Rattle.notes.proofs.Refusals.{Same, same-none, same-more}
 use borrow.Author.Needs.{needs}
-use Rattle.bursts.proofs.refuse_all.Statement.{statement}
-use Rattle.bursts.proofs.refuse_all.Tie as tie
+use Rattle.notes.proofs.refuse_all.Statement.{statement}
+use Rattle.notes.proofs.refuse_all.Tie as tie
 
 abbrev Inv-loop : tie.InvT-loop
 Inv-loop answers₀ packets₀ ways₀ count i₀ answers packets ways i =

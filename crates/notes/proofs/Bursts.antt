@@ -18,7 +18,7 @@ use Rattle.model.specs.Outcome.{Outcome}
 use Rattle.model.proofs.Below.{look, tab-at}
 use Rattle.arrays.proofs.Below.{length-tab}
 use Rattle.steps.specs.Call.{call}
-use Rattle.bursts.specs.Bursts.{calls, callAt, packetCode, wayCode, least, filled, Lists}
+use Rattle.notes.specs.Bursts.{calls, callAt, packetCode, wayCode, least, filled, Lists}
 use Rattle.steps.proofs.Calls.{call-keeps, call-not-formed}
 
 -- one entry more

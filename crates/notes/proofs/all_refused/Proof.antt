@@ -12,8 +12,8 @@ use Rattle.model.specs.Below.{any}
 use Rattle.model.proofs.Below.{any-here}
 use Rattle.arrays.proofs.Searches.{any-none, any-more}
 use Rattle.arrays.proofs.Loops.{any-end}
-use Rattle.bursts.proofs.all_refused.Statement.{statement}
-use Rattle.bursts.proofs.all_refused.Tie as tie
+use Rattle.notes.proofs.all_refused.Statement.{statement}
+use Rattle.notes.proofs.all_refused.Tie as tie
 
 abbrev Inv-loop : tie.InvT-loop
 Inv-loop answers count i₀ i = (i ≤ count) × (false ≡ any (λ j. eqb (getD answers j 0) 0) i)

@@ -17,8 +17,8 @@ use Rattle.model.specs.Answers as answers
 use Rattle.model.proofs.Below.{clash, any-false}
 use Rattle.arrays.proofs.Below.{tab-same, any-never}
 use Rattle.steps.proofs.Calls.{call-not-formed, call-refused}
-use Rattle.bursts.specs.Bursts.{calls, callAt, packetCode, wayCode, filled, Lists}
-use Rattle.bursts.proofs.Bursts.{fills, filled-at, calls-keep}
+use Rattle.notes.specs.Bursts.{calls, callAt, packetCode, wayCode, filled, Lists}
+use Rattle.notes.proofs.Bursts.{fills, filled-at, calls-keep}
 
 -- the first i entries of a list are one value, the others as they were
 pub record Same (v i : ℕ) (xs ys : List ℕ) : Type 0 where

@@ -1,7 +1,7 @@
 -- The test. Assumes nothing.
 use borrow.Author.Tests.{lt-ltb, le-ltb}
-use Rattle.bursts.proofs.lesser.Statement.{statement}
-use Rattle.bursts.proofs.lesser.Tie as tie
+use Rattle.notes.proofs.lesser.Statement.{statement}
+use Rattle.notes.proofs.lesser.Tie as tie
 
 returns : tie.Need-returns
 returns c = let a = c .before .args in rw (lt-ltb (a .a) (a .b) (c .if1 .taken))

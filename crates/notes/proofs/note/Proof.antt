@@ -4,8 +4,8 @@ use mathlib.Core.Path.{refl, ap}
 use lib.ListN.{set}
 use denote.Ref.{now}
 use borrow.Author.Needs.{needs}
-use Rattle.bursts.proofs.note.Statement.{statement}
-use Rattle.bursts.proofs.note.Tie as tie
+use Rattle.notes.proofs.note.Statement.{statement}
+use Rattle.notes.proofs.note.Tie as tie
 
 mul-answers : tie.Need-mul-answers
 mul-answers c = search needs

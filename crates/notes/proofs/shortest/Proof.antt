@@ -1,9 +1,9 @@
 -- The least of the first and of the least of the others. Assumes nothing.
 use mathlib.Core.Path.{ap, _∙_}
 use borrow.Author.Needs.{needs}
-use Rattle.bursts.specs.Bursts.{least}
-use Rattle.bursts.proofs.shortest.Statement.{statement}
-use Rattle.bursts.proofs.shortest.Tie as tie
+use Rattle.notes.specs.Bursts.{least}
+use Rattle.notes.proofs.shortest.Statement.{statement}
+use Rattle.notes.proofs.shortest.Tie as tie
 
 lesser-requires : tie.Need-lesser-requires
 lesser-requires c κs = search needs
