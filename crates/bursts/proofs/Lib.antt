@@ -1,1 +1,4 @@
 pub mod Going
+pub mod InFlight
+pub mod OneOutcome
+pub mod Stated

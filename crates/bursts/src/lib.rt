@@ -1,12 +1,21 @@
-// Events one after the other, on the arrays of a record that was checked once.
-// Public for `network` alone, so `run` may require what the check has told: docs/EXCEPTIONS.md.
+// Events one after the other: a burst on a record, which is checked once.
+// `run` is for `burst` alone, so it may require what the check has told: docs/EXCEPTIONS.md.
 use arrays::Tally;
+use network::Burst;
+use network::Network;
+use notes::all_refused;
 use notes::note;
+use notes::refuse_all;
+use notes::shortest;
 use queued::ask;
 use queued::carry;
 use queued::room_for_one;
 use queues::ROOM;
+use slots::gather;
+use slots::spread;
+use slots::thread_lanes;
 use steps::step;
+use ways::thread;
 ghost use mathlib.Core.Path.{_≡_};
 ghost use mathlib.Core.Bool.{true};
 ghost use Prim.Native.Nat.{_≤_};
@@ -15,6 +24,7 @@ ghost use Rattle.model.specs.Formed.{wellFormed};
 ghost use Rattle.queues.specs.Queue.{room, flown, Roomy, Queued};
 ghost use Rattle.departs.specs.Steps.{stateWith, Chained, Whole};
 ghost use Rattle.notes.specs.Bursts.{calls, Lists};
+ghost use Rattle.network.specs.Calls.{BurstPost};
 
 // An argument as an index.
 fn index(x: u32) -> usize
@@ -113,4 +123,120 @@ pub fn run<'a>(
         note(answers, packets, ways, k, r);
     }
     Ran { tally: t, used }
+}
+
+// As many calls as the shortest list holds, one after the other; the record is checked once.
+pub fn burst<'a>(
+    n: Network,
+    kinds: &'a [u32],
+    arguments: &'a [u32],
+    answers: &mut [u32],
+    packets: &mut [u32],
+    ways: &mut [usize],
+) -> Burst
+    ensures { λ r. ⌜ BurstPost n (now (kinds .entry)) (now (arguments .entry)) (now (answers .entry)) (now (packets .entry)) (now (ways .entry)) (now (answers .exit)) (now (packets .exit)) (now (ways .exit)) r ⌝ }
+{
+    let count = shortest(
+        kinds.len(),
+        arguments.len(),
+        answers.len(),
+        packets.len(),
+        ways.len(),
+    );
+    if !n.well_formed() {
+        refuse_all(answers, packets, ways, count);
+        return Burst { network: n, count };
+    }
+    let tally = n.tally();
+    let chains = thread(&n.node, n.links);
+    let heads = chains.heads;
+    let next = chains.next;
+    let mut live = n.live;
+    let mut out = n.out;
+    let mut local = n.local;
+    let mut remote = n.remote;
+    let mut mark = n.mark;
+    let mut turns = n.turns;
+    let mut numbers = [0u32; ROOM];
+    let mut lanes = [0u16; ROOM];
+    let mut bits = [false; ROOM];
+    spread(
+        &n.number,
+        &n.lane,
+        &n.bit,
+        &mut numbers,
+        &mut lanes,
+        &mut bits,
+        n.flying,
+    );
+    let mut first = [ROOM as u16; model::ENDS];
+    let mut last = [0u16; model::ENDS];
+    let mut after = [0u16; ROOM];
+    thread_lanes(&lanes, n.flying, &mut first, &mut last, &mut after);
+    let ran = run(
+        &n.node,
+        &heads,
+        &next,
+        &mut live,
+        &mut out,
+        &mut local,
+        &mut remote,
+        &mut mark,
+        &mut turns,
+        &mut numbers,
+        &mut lanes,
+        &mut bits,
+        &mut first,
+        &mut last,
+        &mut after,
+        n.nodes,
+        n.destination,
+        n.links,
+        tally,
+        kinds,
+        arguments,
+        answers,
+        packets,
+        ways,
+        count,
+    );
+    // slots past those in use may have moved
+    if all_refused(answers, count) {
+        return Burst { network: n, count };
+    }
+    let t = ran.tally;
+    let mut number = n.number;
+    let mut lane = n.lane;
+    let mut bit = n.bit;
+    let flying = gather(
+        &numbers,
+        &lanes,
+        &bits,
+        &mut number,
+        &mut lane,
+        &mut bit,
+        ran.used,
+    );
+    let network = Network {
+        node: n.node,
+        live,
+        out,
+        local,
+        remote,
+        mark,
+        turns,
+        number,
+        lane,
+        bit,
+        nodes: n.nodes,
+        destination: n.destination,
+        links: n.links,
+        flying,
+        events: t.events,
+        admitted: t.admitted,
+        delivered: t.delivered,
+        lost: t.lost,
+        stranded: t.stranded,
+    };
+    Burst { network, count }
 }

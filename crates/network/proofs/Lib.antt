@@ -5,4 +5,3 @@ pub mod Openings
 pub mod OneOutcome
 pub mod Runs
 pub mod Stated
-pub mod InFlight

@@ -15,9 +15,7 @@ use Rattle.lent.specs.Lent.{Arrays, LentPost}
 use Rattle.network.specs.declared.opening.Opened.{Opened}
 use Rattle.network.specs.declared.record.Network.{Network}
 use Rattle.network.specs.declared.record.Moved.{Moved}
-use Rattle.network.specs.declared.record.Burst.{Burst}
-use Rattle.network.specs.Runs.{eventIf, eventsIn, Run, opened, sent, delivered, lost, failed, applied}
-use Rattle.network.specs.Runs as runs
+use Rattle.network.specs.Runs.{eventIf, Run, opened, sent, delivered, lost, failed, applied}
 use Rattle.network.specs.View.{tallyOf}
 use Rattle.network.proofs.Seen.{arraysOf}
 use Rattle.network.proofs.Remade.{remade, moved, called}
@@ -31,8 +29,6 @@ use Rattle.network.proofs.record.Network.lose.Kinds as lose-kinds
 use Rattle.network.proofs.record.Network.lose.Reads as lose
 use Rattle.network.proofs.record.Network.fail.Kinds as fail-kinds
 use Rattle.network.proofs.record.Network.fail.Reads as fail
-use Rattle.network.proofs.record.Network.burst.Kinds as burst-kinds
-use Rattle.network.proofs.record.Network.burst.Reads as burst
 use Rattle.network.proofs.open.Kinds as opening-kinds
 use Rattle.network.proofs.open.Reads as opening
 
@@ -59,13 +55,6 @@ fail-runs κs a r x p es h = failed (a .0) es h (a .1 .0) r p
 pub apply-runs : (κs : Lfts 0) (a : Dens κs apply-kinds.ps) (r : Moved) (x : AtExit (endedOf 0 apply-kinds.ps apply-kinds.r) κs)
     → apply.Post κs a r x → (es : List Event) → Run (a .0) es → Run (r .network) (es ++ eventIf (ofKind (a .1 .0)) (a .1 .1 .0))
 apply-runs κs a r x p es h = applied (a .0) es h (a .1 .0) (a .1 .1 .0) r p
-
-pub burst-runs : (κs : Lfts 4) (a : Dens κs burst-kinds.ps) (r : Burst) (x : AtExit (endedOf 4 burst-kinds.ps burst-kinds.r) κs)
-    → burst.Post κs a r x → (es : List Event) → Run (a .0) es
-    → Run (r .network) (es ++ eventsIn (now (a .1 .0)) (now (a .1 .1 .0)) (r .count))
-burst-runs κs a r x p es h =
-    runs.burst (a .0) es h (now (a .1 .0)) (now (a .1 .1 .0)) (now (a .1 .1 .1 .0)) (now (a .1 .1 .1 .1 .0)) (now (a .1 .1 .1 .1 .1 .0))
-    (now (x .1 .1 .1 .0)) (now (x .1 .1 .1 .1 .0)) (now (x .1 .1 .1 .1 .1 .0)) r p
 
 -- and so does a call in place on the record's arrays, whose contract is one record
 pub lent-runs : (n : Network) (kind argument : ℕ) (after : Arrays) (r : Step)

@@ -3,27 +3,18 @@ mod opening;
 mod record;
 
 use arrays::Tally;
-use bursts::run;
 use formed::formed;
 use model::DELIVER;
 use model::FAIL;
 use model::LOSE;
 use model::SEND;
-use notes::all_refused;
-use notes::refuse_all;
-use notes::shortest;
 pub use opening::Opened;
 use pairs::closed_walk;
 use pairs::first_bad;
 use pairs::sizes_hold;
-use queues::ROOM;
 pub use record::Burst;
 pub use record::Moved;
 pub use record::Network;
-use slots::gather;
-use slots::spread;
-use slots::thread_lanes;
-use ways::thread;
 ghost use mathlib.Core.Path.{_≡_};
 ghost use Rattle.model.specs.Formed.{wellFormed};
 ghost use Rattle.model.specs.Send.{sendTo};
@@ -33,11 +24,11 @@ ghost use Rattle.model.specs.Fail.{failOf};
 ghost use Rattle.network.specs.View.{view, tallyOf};
 ghost use Rattle.network.specs.Opening.{OpenPost};
 ghost use Rattle.steps.specs.Call.{call};
-ghost use Rattle.network.specs.Calls.{CallPost, BurstPost};
+ghost use Rattle.network.specs.Calls.{CallPost};
 
 impl Network {
     // The counts alone: what an event changes beside the arrays.
-    fn tally(self) -> Tally
+    pub fn tally(self) -> Tally
         ensures { λ r. ⌜ r ≡ tallyOf self ⌝ }
     {
         Tally {
@@ -168,128 +159,6 @@ impl Network {
         ensures { λ r. ⌜ CallPost self (failOf (view self) l) r ⌝ }
     {
         self.apply(FAIL, l)
-    }
-
-    // As many calls as the shortest list holds, one after the other; the record is checked once.
-    pub fn burst<'a>(
-        self,
-        kinds: &'a [u32],
-        arguments: &'a [u32],
-        answers: &mut [u32],
-        packets: &mut [u32],
-        ways: &mut [usize],
-    ) -> Burst
-        ensures { λ r. ⌜ BurstPost self (now (kinds .entry)) (now (arguments .entry)) (now (answers .entry)) (now (packets .entry)) (now (ways .entry)) (now (answers .exit)) (now (packets .exit)) (now (ways .exit)) r ⌝ }
-    {
-        let count = shortest(
-            kinds.len(),
-            arguments.len(),
-            answers.len(),
-            packets.len(),
-            ways.len(),
-        );
-        if !self.well_formed() {
-            refuse_all(answers, packets, ways, count);
-            return Burst {
-                network: self,
-                count,
-            };
-        }
-        let tally = self.tally();
-        let chains = thread(&self.node, self.links);
-        let heads = chains.heads;
-        let next = chains.next;
-        let mut live = self.live;
-        let mut out = self.out;
-        let mut local = self.local;
-        let mut remote = self.remote;
-        let mut mark = self.mark;
-        let mut turns = self.turns;
-        let mut numbers = [0u32; ROOM];
-        let mut lanes = [0u16; ROOM];
-        let mut bits = [false; ROOM];
-        spread(
-            &self.number,
-            &self.lane,
-            &self.bit,
-            &mut numbers,
-            &mut lanes,
-            &mut bits,
-            self.flying,
-        );
-        let mut first = [ROOM as u16; model::ENDS];
-        let mut last = [0u16; model::ENDS];
-        let mut after = [0u16; ROOM];
-        thread_lanes(&lanes, self.flying, &mut first, &mut last, &mut after);
-        let ran = run(
-            &self.node,
-            &heads,
-            &next,
-            &mut live,
-            &mut out,
-            &mut local,
-            &mut remote,
-            &mut mark,
-            &mut turns,
-            &mut numbers,
-            &mut lanes,
-            &mut bits,
-            &mut first,
-            &mut last,
-            &mut after,
-            self.nodes,
-            self.destination,
-            self.links,
-            tally,
-            kinds,
-            arguments,
-            answers,
-            packets,
-            ways,
-            count,
-        );
-        // slots past those in use may have moved
-        if all_refused(answers, count) {
-            return Burst {
-                network: self,
-                count,
-            };
-        }
-        let t = ran.tally;
-        let mut number = self.number;
-        let mut lane = self.lane;
-        let mut bit = self.bit;
-        let flying = gather(
-            &numbers,
-            &lanes,
-            &bits,
-            &mut number,
-            &mut lane,
-            &mut bit,
-            ran.used,
-        );
-        let network = Network {
-            node: self.node,
-            live,
-            out,
-            local,
-            remote,
-            mark,
-            turns,
-            number,
-            lane,
-            bit,
-            nodes: self.nodes,
-            destination: self.destination,
-            links: self.links,
-            flying,
-            events: t.events,
-            admitted: t.admitted,
-            delivered: t.delivered,
-            lost: t.lost,
-            stranded: t.stranded,
-        };
-        Burst { network, count }
     }
 }
 

@@ -1,5 +1,5 @@
 // What the calls of a burst gave, as numbers in lists.
-// Public for `bursts` and `network` alone, so these functions may require lists that are long enough: docs/EXCEPTIONS.md.
+// Public for `bursts` alone, so these functions may require lists that are long enough: docs/EXCEPTIONS.md.
 use model::Handled;
 use model::Went;
 use steps::Step;

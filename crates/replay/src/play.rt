@@ -1,5 +1,6 @@
 // A chunk's events, run by one burst and written line by line.
 use crate::chunk::CHUNK;
+use bursts::burst;
 use letters::TABLE;
 use lines::event;
 use network::Network;
@@ -67,7 +68,14 @@ pub(crate) fn play<'a>(
     let mut answers = [0u32; CHUNK];
     let mut packets = [0u32; CHUNK];
     let mut ways = [0usize; CHUNK];
-    let burst = network.burst(kinds, arguments, &mut answers, &mut packets, &mut ways);
+    let burst = burst(
+        network,
+        kinds,
+        arguments,
+        &mut answers,
+        &mut packets,
+        &mut ways,
+    );
     let next = lines(
         out,
         at,

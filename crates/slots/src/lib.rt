@@ -1,5 +1,5 @@
 // The packets of a record into the slots of a burst, and those that still stand back again.
-// Public for `queued` and `network` alone, so these functions may require what the check has told: docs/EXCEPTIONS.md.
+// Public for `queued` and `bursts` alone, so these functions may require what the check has told: docs/EXCEPTIONS.md.
 use arrays::SLOTS;
 use arrays::wide;
 use queues::NO_LANE;

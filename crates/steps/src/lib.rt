@@ -1,5 +1,5 @@
 // One event on the arrays of a record that was checked: the part that moves arrows.
-// Public for `network` alone, so `step` may require what the check has told: docs/EXCEPTIONS.md.
+// Public for `lent` and `bursts` alone, so `step` may require what the check has told: docs/EXCEPTIONS.md.
 mod fail;
 
 use arrays::Tally;

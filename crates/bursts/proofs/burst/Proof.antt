@@ -19,14 +19,14 @@ use Rattle.arrays.proofs.Below.{length-tab}
 use Rattle.queues.specs.Queue.{Queued}
 use Rattle.departs.specs.Steps.{stateWith, Whole, Sound}
 use Rattle.departs.proofs.Sounds.{sound-if}
 use Rattle.network.specs.declared.record.Network.{Network}
 use Rattle.network.specs.View.{view, tallyOf}
 use Rattle.notes.specs.Bursts.{calls}
 use Rattle.notes.proofs.Bursts.{calls-same, shortest-is, given-by}
 use Rattle.notes.proofs.Refusals.{all-refused, calls-refused, none-done, done-none}
-use Rattle.network.proofs.InFlight.{lanes-named, spread-seen, few-after}
-use Rattle.network.proofs.record.Network.burst.Statement.{statement}
-use Rattle.network.proofs.record.Network.burst.Tie as tie
+use Rattle.bursts.proofs.InFlight.{lanes-named, spread-seen, few-after}
+use Rattle.bursts.proofs.burst.Statement.{statement}
+use Rattle.bursts.proofs.burst.Tie as tie
 
 whole : (c : tie.Start) → let n = c .args .t1 in Whole (n .live) (n .out) (n .local) (n .remote) (n .mark) (n .turns)
 whole c = record {
