@@ -1,4 +1,3 @@
-pub mod Going
 pub mod InFlight
 pub mod OneOutcome
 pub mod Stated

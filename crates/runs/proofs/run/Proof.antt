@@ -19,9 +19,9 @@ use Rattle.steps.proofs.Calls.{call-lane}
 use Rattle.steps.proofs.Tellings.{tells-there, tells-gone}
 use Rattle.notes.specs.Bursts.{calls}
 use Rattle.notes.proofs.Bursts.{ran-none}
-use Rattle.bursts.proofs.Going.{Going, still-formed, few-going, going-sound, going-moved, going-on}
-use Rattle.bursts.proofs.run.Statement.{statement}
-use Rattle.bursts.proofs.run.Tie as tie
+use Rattle.runs.proofs.Going.{Going, still-formed, few-going, going-sound, going-moved, going-on}
+use Rattle.runs.proofs.run.Statement.{statement}
+use Rattle.runs.proofs.run.Tie as tie
 
 abbrev Inv-loop : tie.InvT-loop
 Inv-loop node heads next live₀ out₀ local₀ remote₀ mark₀ turns₀ number₀ lane₀ bit₀ first₀ last₀ after₀ nodes destination links kinds arguments answers₀ packets₀ ways₀ count t₀ used₀ i₀ live out local remote mark turns number lane bit first last after answers packets ways t used i =
