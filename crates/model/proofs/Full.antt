@@ -51,7 +51,7 @@ sends k (suc n) h w =
     let v : wellFormed (sent (suc k)) ≡ true = ap wellFormed (sym e) ∙ kept (step (sent k) (send 1)) w in
     ap (λ (s : State). after s (replicate n (send 1))) e ∙ sends (suc k) n (omega arith) v ∙ ap sent (omega arith)
 
-after-append : (s : State) (xs ys : List Event) → after s (xs ++ ys) ≡ after (after s xs) ys
+pub after-append : (s : State) (xs ys : List Event) → after s (xs ++ ys) ≡ after (after s xs) ys
 unfolding after
 after-append s [] ys = refl
 after-append s (x ∷ xs) ys = after-append (event s x .state) xs ys

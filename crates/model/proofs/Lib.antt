@@ -30,4 +30,5 @@ pub mod Digits
 pub mod InFile
 pub mod Lines
 pub mod TextFits
+pub mod Shown
 pub mod Promises

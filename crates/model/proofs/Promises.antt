@@ -1,5 +1,5 @@
 -- A term for each promise of specs/Promises.antt. Assumes nothing.
-use Rattle.model.specs.Promises.{CasesHold, OthersHold, FourExactly, FormedKept, RefusedSame, WayOut, NineExactly, FailKeeps, Named, TurnsBounded, TurnsCounted, EndsAgree, TenNever, FourPlaces, ReadBack, OneWritingEach, ReadingEnds, PiecesMakeWhole, TextFits}
+use Rattle.model.specs.Promises.{CasesHold, OthersHold, FourExactly, FormedKept, RefusedSame, WayOut, NineExactly, FailKeeps, Named, TurnsBounded, TurnsCounted, EndsAgree, TenNever, FourPlaces, BoundMet, HistoriesAre, PlacesShown, AgreementTells, ReadBack, OneWritingEach, ReadingEnds, PiecesMakeWhole, TextFits}
 use Rattle.model.proofs.Cases as cases
 use Rattle.model.proofs.Opening as opening
 use Rattle.model.proofs.Single as single
@@ -8,6 +8,7 @@ use Rattle.model.proofs.Bound as bound
 use Rattle.model.proofs.Agreement as agreement
 use Rattle.model.proofs.Turns as turns
 use Rattle.model.proofs.Places as places
+use Rattle.model.proofs.Shown as shown
 use Rattle.model.proofs.ReadBack as read-back-of
 use Rattle.model.proofs.Had as had
 use Rattle.model.proofs.OneWriting as one-writing-of
@@ -55,6 +56,18 @@ ten-never = agreement.ten-never
 
 pub four-places : FourPlaces
 four-places = places.four-places
+
+pub bound-met : BoundMet
+bound-met = shown.bound-met
+
+pub histories-are : HistoriesAre
+histories-are = shown.histories-are
+
+pub places-shown : PlacesShown
+places-shown = shown.places-shown
+
+pub agreement-tells : AgreementTells
+agreement-tells = shown.agreement-tells
 
 pub read-back : ReadBack
 read-back = read-back-of.read-back

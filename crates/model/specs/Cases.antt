@@ -1,16 +1,18 @@
 -- "Both sides of each edge (P: proved)": P1 to P12 as one table, and beside it a table of further cases.
 use Prim.Native.Nat.{ℕ}
-use mathlib.Core.Bool.{true, false}
+use Prim.Native.String.{String}
+use mathlib.Core.Bool.{Bool, true, false}
 use mathlib.Core.List.{List, [], _∷_, _++_}
 use lib.ListN.{replicate}
 use Rattle.model.specs.declared.Handled.the-variants.{Packet, Nothing}
 use Rattle.model.specs.declared.Went.the-variants.{Lane, Delivered, Lost, Stranded, Nowhere}
-use Rattle.model.specs.State.{Counts}
+use Rattle.model.specs.Limits.{endsMost, textMost}
+use Rattle.model.specs.State.{Packet as Packets, Counts}
 use Rattle.model.specs.Events.{send, deliver, lose, fail}
 use Rattle.model.specs.Number.{had, refused}
 use Rattle.model.specs.File.{Header}
 use Rattle.model.specs.Text.{ascii}
-use Rattle.model.specs.Rows.{opens, last, all-of, writes, reads, file, runs, prints, answers, gave, leaves, bytes, number, Case, row}
+use Rattle.model.specs.Rows.{nodes-are, destination-is, links-are, node-is, turns-are, up-is, out-is, mark-is, flight-is, counts-are, unchanged, unreversed, gone, turned, opens, last, all-of, on-made, formed, judges, writes, reads, puts-event, puts-header, file, runs, prints, limit, answers, gave, leaves, bytes, number, told, wrote, is, Case, row}
 
 abbrev pub net : ℕ → ℕ → List ℕ → Header
 net nodes destination list = record { nodes = nodes; destination = destination; list = list }
@@ -18,6 +20,10 @@ net nodes destination list = record { nodes = nodes; destination = destination; 
 abbrev pub count : ℕ → ℕ → ℕ → ℕ → ℕ → Counts
 count events admitted delivered lost stranded =
     record { events = events; admitted = admitted; delivered = delivered; lost = lost; stranded = stranded }
+
+-- a packet in flight
+abbrev pub packet : ℕ → ℕ → Bool → Packets
+packet n x b = record { number = n; lane = x; bit = b }
 
 -- "Input D1, decimal bytes"
 abbrev pub d1 : List ℕ
@@ -34,6 +40,19 @@ two-ways = net 4 0 (2 ∷ 1 ∷ 1 ∷ 3 ∷ [])
 -- a node 1 with links to nodes 2 and 3, which both turn
 abbrev pub all-out : Header
 all-out = net 4 0 (1 ∷ 2 ∷ 1 ∷ 3 ∷ [])
+
+-- one link, to node 1 from the destination
+abbrev pub away-from : Header
+away-from = net 2 0 (0 ∷ 1 ∷ [])
+
+-- a node 1 with a link to the destination, a node 2 with none: 3 packets stranded, 1 delivered, 6 sent, 2 of these lost
+abbrev pub strands : List ℕ
+strands =
+    3 ∷ 0 ∷ 1 ∷ 1 ∷ 0 ∷ 1 ∷ 2 ∷ 1 ∷ 2 ∷ 1 ∷ 2 ∷ 1 ∷ 0 ∷ 1 ∷ 1 ∷ 1 ∷ 1 ∷ 1 ∷ 1 ∷ 1 ∷ 1 ∷ 1 ∷ 1 ∷ 1 ∷ 1 ∷ 3 ∷ 0 ∷ 3 ∷ 0 ∷ []
+
+abbrev pub strands-text : String
+strands-text =
+    "1 0 0 end\n2 0 1 end\n3 0 2 end\n4 0 3 in\n5 0 4 0\n6 0 5 0\n7 0 6 0\n8 0 7 0\n9 0 8 0\n10 0 9 0\n11 0 4 lost\n12 0 5 lost\ntotal 10 1 2 3 4\nturns 0 0 0\n"
 
 abbrev pub cases : List Case
 cases =
@@ -179,4 +198,110 @@ others =
       flight = record { number = 0; lane = 0; bit = false } ∷ record { number = 2; lane = 0; bit = false } ∷ [];
       counts = count 5 4 0 2 0;
     }))
+    -- one link after another, and the oldest of each lane, in the flight
+    ∷ row (all-of (net 3 0 (1 ∷ 0 ∷ 2 ∷ 1 ∷ [])) (send 1 ∷ send 2 ∷ send 1 ∷ lose 0 ∷ send 1 ∷ deliver 2 ∷ deliver 0 ∷ []))
+    (leaves
+    (record {
+      nodes = 3;
+      destination = 0;
+      links = 2;
+      node = 1 ∷ 0 ∷ 2 ∷ 1 ∷ [];
+      up = true ∷ true ∷ [];
+      out = true ∷ false ∷ true ∷ false ∷ [];
+      local = false ∷ false ∷ false ∷ false ∷ [];
+      remote = false ∷ false ∷ false ∷ false ∷ [];
+      mark = false ∷ true ∷ false ∷ true ∷ [];
+      turns = 0 ∷ 0 ∷ 0 ∷ [];
+      flight = packet 3 0 false ∷ packet 1 0 false ∷ [];
+      counts = count 7 4 1 1 0;
+    }))
+    -- no such node, lane or link; a link that is down
+    ∷ row (last one-link [] (send 2)) (gave 6 Nothing Nowhere (0 ∷ 0 ∷ []) (count 0 0 0 0 0))
+    ∷ row (last one-link [] (deliver 2)) (gave 6 Nothing Nowhere (0 ∷ 0 ∷ []) (count 0 0 0 0 0))
+    ∷ row (last one-link [] (lose 2)) (gave 6 Nothing Nowhere (0 ∷ 0 ∷ []) (count 0 0 0 0 0))
+    ∷ row (last one-link [] (fail 1)) (gave 6 Nothing Nowhere (0 ∷ 0 ∷ []) (count 0 0 0 0 0))
+    ∷ row (last one-link (fail 0 ∷ []) (fail 0)) (gave 7 Nothing Nowhere (0 ∷ 0 ∷ []) (count 1 0 0 0 0))
+    -- well formed, by a packet sent on one link and one thing changed: the limits, on both sides
+    ∷ row (formed one-link (send 1 ∷ []) []) (told true)
+    ∷ row (formed one-link (send 1 ∷ []) (nodes-are 64 ∷ [])) (told true)
+    ∷ row (formed one-link (send 1 ∷ []) (nodes-are 65 ∷ [])) (told false)
+    ∷ row (formed one-link (send 1 ∷ []) (destination-is 1 ∷ [])) (told true)
+    ∷ row (formed one-link (send 1 ∷ []) (destination-is 2 ∷ [])) (told false)
+    ∷ row (formed (net 1 0 []) [] (nodes-are 0 ∷ [])) (told false)
+    ∷ row (formed one-link [] (flight-is (replicate 256 (packet 0 0 false)) ∷ counts-are (count 256 256 0 0 0) ∷ [])) (told true)
+    ∷ row (formed one-link [] (flight-is (replicate 257 (packet 0 0 false)) ∷ counts-are (count 257 257 0 0 0) ∷ [])) (told false)
+    ∷ row (formed one-link (send 1 ∷ []) (counts-are (count 1_000_000 1 0 0 0) ∷ [])) (told true)
+    ∷ row (formed one-link (send 1 ∷ []) (counts-are (count 1_000_001 1 0 0 0) ∷ [])) (told false)
+    -- every number in its range: a link names two nodes; only entries in use count
+    ∷ row (formed one-link [] (nodes-are 1 ∷ [])) (told false)
+    ∷ row (formed one-link [] (node-is 1 2 ∷ [])) (told false)
+    ∷ row (formed one-link [] (node-is 1 1 ∷ [])) (told false)
+    ∷ row (formed one-link [] (links-are 2 ∷ [])) (told false)
+    ∷ row (formed one-link [] (links-are 2 ∷ node-is 3 1 ∷ [])) (told true)
+    -- a marked end is In and on a live link
+    ∷ row (formed one-link [] (mark-is 1 false ∷ [])) (told true)
+    ∷ row (formed one-link [] (mark-is 0 true ∷ [])) (told false)
+    ∷ row (formed one-link [] (out-is 0 false ∷ mark-is 0 true ∷ [])) (told true)
+    ∷ row (formed one-link (fail 0 ∷ []) []) (told true)
+    ∷ row (formed one-link (fail 0 ∷ []) (mark-is 1 true ∷ [])) (told false)
+    -- packets on lanes of live links, with numbers below admitted
+    ∷ row (formed one-link (send 1 ∷ []) (flight-is (packet 0 1 true ∷ []) ∷ [])) (told true)
+    ∷ row (formed one-link (send 1 ∷ []) (flight-is (packet 0 2 false ∷ []) ∷ [])) (told false)
+    ∷ row (formed one-link (send 1 ∷ []) (flight-is (packet 1 0 false ∷ []) ∷ [])) (told false)
+    ∷ row (formed one-link (send 1 ∷ []) (up-is 0 false ∷ mark-is 1 false ∷ [])) (told false)
+    -- admitted and every node's turns are at most events, and the sum
+    ∷ row (formed one-link (send 1 ∷ []) (turns-are 1 1 ∷ [])) (told true)
+    ∷ row (formed one-link (send 1 ∷ []) (turns-are 1 2 ∷ [])) (told false)
+    ∷ row (formed one-link (send 1 ∷ []) (turns-are 2 2 ∷ [])) (told true)
+    ∷ row (formed one-link (send 1 ∷ []) (counts-are (count 4 4 1 1 1) ∷ [])) (told true)
+    ∷ row (formed one-link (send 1 ∷ []) (counts-are (count 3 4 1 1 1) ∷ [])) (told false)
+    ∷ row (formed one-link (send 1 ∷ []) (counts-are (count 4 3 1 1 1) ∷ [])) (told false)
+    ∷ row (formed one-link (send 1 ∷ []) (counts-are (count 4 4 0 1 1) ∷ [])) (told false)
+    ∷ row (formed one-link (send 1 ∷ []) (counts-are (count 4 4 1 0 1) ∷ [])) (told false)
+    ∷ row (formed one-link (send 1 ∷ []) (counts-are (count 4 4 1 1 0) ∷ [])) (told false)
+    -- on records made by hand: 1 before 5, 5 before 6; the last event that is accepted; 10
+    ∷ row (on-made one-link [] (mark-is 0 true ∷ []) (send 1)) (gave 1 Nothing Nowhere (0 ∷ 0 ∷ []) (count 0 0 0 0 0))
+    ∷ row (on-made one-link [] (mark-is 0 true ∷ counts-are (count 1_000_000 0 0 0 0) ∷ []) (send 1))
+    (gave 1 Nothing Nowhere (0 ∷ 0 ∷ []) (count 1_000_000 0 0 0 0))
+    ∷ row (on-made one-link [] (counts-are (count 1_000_000 0 0 0 0) ∷ []) (send 1))
+    (gave 5 Nothing Nowhere (0 ∷ 0 ∷ []) (count 1_000_000 0 0 0 0))
+    ∷ row (on-made one-link [] (counts-are (count 1_000_000 0 0 0 0) ∷ []) (fail 1))
+    (gave 5 Nothing Nowhere (0 ∷ 0 ∷ []) (count 1_000_000 0 0 0 0))
+    ∷ row (on-made one-link [] (counts-are (count 999_999 0 0 0 0) ∷ []) (send 1))
+    (gave 0 (Packet 0) (Lane 0) (0 ∷ 0 ∷ []) (count 1_000_000 1 0 0 0))
+    ∷ row (on-made one-link (send 1 ∷ []) (flight-is (packet 0 0 true ∷ []) ∷ []) (deliver 0))
+    (gave 10 Nothing Nowhere (0 ∷ 0 ∷ []) (count 1 1 0 0 0))
+    -- a turn: no arrow leads out, and one is reversed; the news counts first; of no other node
+    ∷ row (judges away-from [] (send 1) unchanged 1) (told true)
+    ∷ row (judges away-from [] (send 1) unchanged 0) (told false)
+    ∷ row (judges two-ways (send 3 ∷ []) (deliver 3) unchanged 1) (told true)
+    ∷ row (judges one-link [] (send 1) unchanged 1) (told false)
+    ∷ row (judges one-link (send 1 ∷ []) (deliver 0) unchanged 0) (told false)
+    -- and none: no arrow reversed, the packet not passed on, an arrow that led out, another node's packet
+    ∷ row (judges away-from [] (send 1) unreversed 1) (told false)
+    ∷ row (judges away-from [] (send 1) (gone Delivered) 1) (told false)
+    ∷ row (judges two-ways [] (send 1) (turned 1) 1) (told false)
+    ∷ row (judges two-ways [] (send 1) (turned 3) 3) (told false)
+    -- an event written: what it needs of the part, and no more; 6 before 12
+    ∷ row (puts-event 1 5 (9 ∷ 9 ∷ 9 ∷ [])) (wrote 0 0 2 (1 ∷ 5 ∷ 9 ∷ []))
+    ∷ row (puts-event 1 5 (9 ∷ [])) (wrote 12 0 0 (9 ∷ []))
+    ∷ row (puts-event 4 2_097_151 (9 ∷ 9 ∷ 9 ∷ 9 ∷ [])) (wrote 0 0 4 (4 ∷ 0xff ∷ 0xff ∷ 0x7f ∷ []))
+    ∷ row (puts-event 4 2_097_152 (9 ∷ 9 ∷ 9 ∷ 9 ∷ [])) (wrote 6 0 0 (9 ∷ 9 ∷ 9 ∷ 9 ∷ []))
+    ∷ row (puts-event 5 0 []) (wrote 6 0 0 [])
+    ∷ row (puts-event 0 0 (9 ∷ 9 ∷ [])) (wrote 6 0 0 (9 ∷ 9 ∷ []))
+    -- a header written; 2, 3, 4 before 12
+    ∷ row (puts-header one-link (9 ∷ 9 ∷ 9 ∷ 9 ∷ 9 ∷ 9 ∷ [])) (wrote 0 0 5 (2 ∷ 0 ∷ 1 ∷ 1 ∷ 0 ∷ 9 ∷ []))
+    ∷ row (puts-header one-link (9 ∷ 9 ∷ 9 ∷ 9 ∷ [])) (wrote 12 0 0 (9 ∷ 9 ∷ 9 ∷ 9 ∷ []))
+    ∷ row (puts-header (net 2 2 []) []) (wrote 2 0 0 [])
+    ∷ row (puts-header (net 3 0 (1 ∷ 0 ∷ 2 ∷ 2 ∷ [])) []) (wrote 3 1 0 [])
+    ∷ row (puts-header (net 2 0 (0 ∷ 1 ∷ 1 ∷ 0 ∷ [])) []) (wrote 4 0 0 [])
+    -- a refused header's text; packets lost, stranded, delivered and in flight, each another number
+    ∷ row (prints (3 ∷ 0 ∷ 2 ∷ 1 ∷ 0 ∷ 2 ∷ 2 ∷ [])) (bytes (ascii "refused 3 1\n"))
+    ∷ row (prints strands) (bytes (ascii strands-text))
+    -- a file of 65,536 bytes is read, one byte more is too long
+    ∷ row (prints (replicate 65_536 0)) (bytes (ascii "refused 2 0\n"))
+    ∷ row (prints (replicate 65_537 0)) (bytes (ascii "refused 11 65536\n"))
+    -- the limits that follow: the ends of all links; the program's text
+    ∷ row (limit endsMost) (is 512)
+    ∷ row (limit textMost) (is 688_708)
     ∷ []

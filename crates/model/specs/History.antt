@@ -17,3 +17,18 @@ pub data History : State → Type 0 where
 unfoldable pub after : State → List Event → State
 after s [] = s
 after s (e ∷ es) = after (event s e .state) es
+
+-- a history goes on with a run of events
+unfoldable pub goesOn : {s : State} → History s → (es : List Event) → History (after s es)
+unfolding after
+goesOn h [] = h
+goesOn h (e ∷ es) = goesOn (next h e) es
+
+-- the state of an accepted opening after a run of events
+pub record Ran (s : State) : Type 0 where
+  pub nodes : ℕ
+  pub destination : ℕ
+  pub list : List ℕ
+  pub accepted : openFrom nodes destination list .answer ≡ answers.done
+  pub events : List Event
+  pub state : after (openFrom nodes destination list .state) events ≡ s

@@ -24,4 +24,5 @@ pub mod Writable
 pub mod Text
 pub mod Rows
 pub mod Cases
+pub mod Shown
 pub mod Promises

@@ -3,7 +3,7 @@ use Prim.Native.Nat.{ℕ, _+_, _<_, _≤_}
 use mathlib.Core.Path.{_≡_}
 use mathlib.Core.Logic.{_⊎_}
 use mathlib.Core.Bool.{true, false}
-use mathlib.Core.List.{List, _++_}
+use mathlib.Core.List.{List, [], _∷_, _++_, map}
 use mathlib.Core.Option.{some}
 use lib.ListN.{length, drop}
 use Rattle.model.specs.declared.Handled.the-variants as handled
@@ -17,20 +17,21 @@ use Rattle.model.specs.Departure.{outAt, hasLive, hasOut, update, door}
 use Rattle.model.specs.Outcome.{Outcome}
 use Rattle.model.specs.Send.{sendTo}
 use Rattle.model.specs.Fail.{failOf}
-use Rattle.model.specs.Events.{Event, event}
+use Rattle.model.specs.Events.{Event, send, fail, event}
 use Rattle.model.specs.Opening.{ClosedWalk, openFrom}
-use Rattle.model.specs.History.{History, after}
+use Rattle.model.specs.History.{History, start, after, goesOn, Ran}
 use Rattle.model.specs.Paths.{Joined}
 use Rattle.model.specs.Agreement.{Agree, Untold}
 use Rattle.model.specs.Turns.{turnEvents}
-use Rattle.model.specs.Places.{placed, inAll}
+use Rattle.model.specs.Places.{placed, inAll, sentAs}
 use Rattle.model.specs.Number.{numberBytes, had, readNumber}
 use Rattle.model.specs.File.{Header, opening, readHeader, argument, readEvent, andMore, eventsFrom, readEvents, Drill, read}
 use Rattle.model.specs.Writing.{headerBytes, eventBytes, write}
 use Rattle.model.specs.Writable.{Bytes, Writable, writePieces}
 use Rattle.model.specs.Text.{drillOutput}
-use Rattle.model.specs.Rows.{Hold}
-use Rattle.model.specs.Cases.{cases, others}
+use Rattle.model.specs.Rows.{local-is, flight-is, Hold}
+use Rattle.model.specs.Cases.{packet, one-link, away-from, cases, others}
+use Rattle.model.specs.Shown.{ran, Met, zigzag, two-turns, longer-zigzag, three-turns, circle, circle-turns, shortcut, crowd, crowd-events, heard, unheard}
 
 -- "P1 to P12 are proved about the definitions, as a single table under a single statement." Beside it the further cases.
 abbrev pub CasesHold : Type 0
@@ -129,14 +130,58 @@ abbrev pub TenNever : Type 0
 TenNever = (s : State) → History s → (e : Event) → event s e .answer ≡ answers.outOfStep → ⊥
 
 -- "proved over the history from an opening: each admitted number stands in exactly one of four places (in flight, delivered, lost,
--- stranded), by the event that put it there", and in that place once. A number that was not admitted stands nowhere. The counts of the
--- record are the sizes.
+-- stranded), by the event that put it there", and in that place once. A number that was not admitted stands nowhere. The packets that the
+-- record has in flight are those that the events put there, in that order; its counts are the sizes.
 pub record FourPlaces : Type 0 where
-  pub once : (s : State) (h : History s) (n : ℕ) → n < s .counts .admitted → inAll n (s .flight) (placed h) ≡ 1
-  pub nowhere : (s : State) (h : History s) (n : ℕ) → s .counts .admitted ≤ n → inAll n (s .flight) (placed h) ≡ 0
+  pub once : (s : State) (h : History s) (n : ℕ) → n < s .counts .admitted → inAll n (placed h) ≡ 1
+  pub nowhere : (s : State) (h : History s) (n : ℕ) → s .counts .admitted ≤ n → inAll n (placed h) ≡ 0
+  pub flying : (s : State) (h : History s) → map sentAs (s .flight) ≡ placed h .flying
   pub delivered : (s : State) (h : History s) → s .counts .delivered ≡ length (placed h .delivered)
   pub lost : (s : State) (h : History s) → s .counts .lost ≡ length (placed h .lost)
   pub stranded : (s : State) (h : History s) → s .counts .stranded ≡ length (placed h .stranded)
+
+-- ---- the words of these theorems, in given states
+-- Demand 3 cannot be sharpened, and it is the links of a path that are counted. The bound is met at 1, 2 and 3 links; where two paths lead
+-- to the destination, by the shorter; where a link that has failed would shorten the path, by what is left. A path goes either way along
+-- an arrow.
+pub record BoundMet : Type 0 where
+  pub one : Met away-from (send 1 ∷ []) 1 1
+  pub two : Met zigzag two-turns 2 2
+  pub three : Met longer-zigzag three-turns 3 3
+  pub shorter : Met circle circle-turns 2 2
+  pub longer : Joined (ran circle circle-turns) 2 3
+  pub failed : Met shortcut (fail 3 ∷ two-turns) 2 2
+  pub not-yet-failed : Joined (ran shortcut []) 2 1
+  pub along : Joined (ran one-link []) 1 1
+  pub against : Joined (ran away-from []) 1 1
+
+-- "Take an accepted network, then any sequence of sends, deliveries, losses and link failures": that is a history, and nothing else is.
+pub record HistoriesAre : Type 0 where
+  pub every : (s : State) → Ran s → History s
+  pub only : (s : State) → History s → Ran s
+
+-- The four places after events of every kind, each in the order in which the packets came there.
+abbrev pub PlacesShown : Type 0
+PlacesShown = (h : opening crowd .answer ≡ answers.done) → placed (goesOn (start (crowd .nodes) (crowd .destination) (crowd .list) h) crowd-events)
+    ≡ record {
+      flying = record { number = 6; lane = 0 } ∷ record { number = 9; lane = 0 } ∷ record { number = 8; lane = 0 } ∷ [];
+      delivered = 4 ∷ 1 ∷ [];
+      lost = 0 ∷ 2 ∷ 5 ∷ [];
+      stranded = 3 ∷ 7 ∷ [];
+    }
+
+-- Ends that agree, an end that has yet to hear, and what is neither: a local bit, or a packet's bit, that is another.
+pub record AgreementTells : Type 0 where
+  pub agree : Agree (heard []) 0 1
+  pub other-mine : Agree (heard (local-is 0 false ∷ [])) 0 1 → ⊥
+  pub other-yours : Agree (heard (local-is 1 true ∷ [])) 0 1 → ⊥
+  pub other-from-me : Agree (heard (flight-is (packet 0 0 true ∷ packet 1 0 false ∷ []) ∷ [])) 0 1 → ⊥
+  pub other-from-you : Agree (heard (flight-is (packet 0 1 false ∷ packet 1 1 true ∷ []) ∷ [])) 0 1 → ⊥
+  pub untold : Untold (unheard []) 0 1
+  pub told-mine : Untold (unheard (local-is 0 true ∷ [])) 0 1 → ⊥
+  pub told-yours : Untold (unheard (local-is 1 true ∷ [])) 0 1 → ⊥
+  pub new-then-old : Untold (unheard (flight-is (packet 0 0 false ∷ packet 1 0 true ∷ []) ∷ [])) 0 1 → ⊥
+  pub told-from-you : Untold (unheard (flight-is (packet 0 1 false ∷ packet 1 1 true ∷ []) ∷ [])) 0 1 → ⊥
 
 -- ---- drill files
 -- Reading what was written gives it back: the number, the event, the header, at any position of a file in which they stand, with the

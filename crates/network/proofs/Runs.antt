@@ -83,6 +83,7 @@ code-keeps n es c =
       untold = ends-agree .untold s h;
       once = four-places .once s h;
       nowhere = four-places .nowhere s h;
+      flying-all = four-places .flying s h;
       in-all = four-places .delivered s h;
       lost-all = four-places .lost s h;
       stranded-all = four-places .stranded s h;

@@ -3,7 +3,7 @@ use Prim.Native.Nat.{ℕ, zero, suc, _≤_, _<_}
 use mathlib.Core.Path.{_≡_}
 use mathlib.Core.Logic.{_⊎_}
 use mathlib.Core.Bool.{true, false}
-use mathlib.Core.List.{List, [], _∷_, _++_}
+use mathlib.Core.List.{List, [], _∷_, _++_, map}
 use mathlib.Core.Option.{Option, none, some}
 use lib.ListN.{length, getD}
 use Rattle.model.specs.Answers as answers
@@ -18,7 +18,7 @@ use Rattle.model.specs.History.{History, start, next}
 use Rattle.model.specs.Paths.{Joined}
 use Rattle.model.specs.Turns.{turnEvents}
 use Rattle.model.specs.Agreement.{Agree, Untold}
-use Rattle.model.specs.Places.{placed, inAll}
+use Rattle.model.specs.Places.{placed, inAll, sentAs}
 use Rattle.network.specs.declared.record.Network.{Network}
 use Rattle.network.specs.declared.record.Moved.{Moved}
 use Rattle.network.specs.declared.record.Burst.{Burst}
@@ -73,8 +73,9 @@ pub record Kept (s : State) (es : List Event) : Type 0 where
   pub untold : (x : ℕ) → x < lanes s → whole s x ≡ true → s .ends .out x ≡ true → s .ends .out (opp x) ≡ true
       → Untold s x (opp x) ⊎ Untold s (opp x) x
   -- the four places
-  pub once : (n : ℕ) → n < s .counts .admitted → inAll n (s .flight) (placed history) ≡ 1
-  pub nowhere : (n : ℕ) → s .counts .admitted ≤ n → inAll n (s .flight) (placed history) ≡ 0
+  pub once : (n : ℕ) → n < s .counts .admitted → inAll n (placed history) ≡ 1
+  pub nowhere : (n : ℕ) → s .counts .admitted ≤ n → inAll n (placed history) ≡ 0
+  pub flying-all : map sentAs (s .flight) ≡ placed history .flying
   pub in-all : s .counts .delivered ≡ length (placed history .delivered)
   pub lost-all : s .counts .lost ≡ length (placed history .lost)
   pub stranded-all : s .counts .stranded ≡ length (placed history .stranded)
