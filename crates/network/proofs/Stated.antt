@@ -1,7 +1,6 @@
 -- A call of the code, by the contract as the source states it (`Reads.Post`), makes a run longer by its event. Assumes nothing.
 use mathlib.Core.Path.{_≡_}
 use mathlib.Core.List.{List, [], _∷_, _++_}
-use Prim.Native.Nat.{ℕ}
 use contract.Lifetimes.{Lfts}
 use denote.Triple.Clauses.{AtExit}
 use denote.Ref.{now}
@@ -11,13 +10,13 @@ use Rattle.model.specs.Events.{Event}
 use Rattle.model.specs.Events as events
 use Rattle.model.specs.File.{ofKind}
 use Rattle.departs.specs.declared.tally.Step.{Step}
-use Rattle.lent.specs.Lent.{Arrays, LentPost}
+use Rattle.lent.proofs.apply.Kinds as lent-kinds
+use Rattle.lent.proofs.apply.Reads as lent
+use Rattle.lent.proofs.OneOutcome.{left}
 use Rattle.network.specs.declared.opening.Opened.{Opened}
 use Rattle.network.specs.declared.record.Network.{Network}
 use Rattle.network.specs.declared.record.Moved.{Moved}
 use Rattle.network.specs.Runs.{eventIf, Run, opened, sent, delivered, lost, failed, applied}
-use Rattle.network.specs.View.{tallyOf}
-use Rattle.network.proofs.Seen.{arraysOf}
 use Rattle.network.proofs.Remade.{remade, moved, called}
 use Rattle.network.proofs.record.Network.apply.Kinds as apply-kinds
 use Rattle.network.proofs.record.Network.apply.Reads as apply
@@ -56,8 +55,39 @@ pub apply-runs : (κs : Lfts 0) (a : Dens κs apply-kinds.ps) (r : Moved) (x : A
     → apply.Post κs a r x → (es : List Event) → Run (a .0) es → Run (r .network) (es ++ eventIf (ofKind (a .1 .0)) (a .1 .1 .0))
 apply-runs κs a r x p es h = applied (a .0) es h (a .1 .0) (a .1 .1 .0) r p
 
--- and so does a call in place on the record's arrays, whose contract is one record
-pub lent-runs : (n : Network) (kind argument : ℕ) (after : Arrays) (r : Step)
-    → LentPost (n .node) (n .nodes) (n .destination) (n .links) (arraysOf n) (tallyOf n) kind argument after r
-    → (es : List Event) → Run n es → Run (remade n after (r .tally)) (es ++ eventIf (ofKind kind) argument)
-lent-runs n kind argument after r p es h = applied n es h kind argument (moved n kind argument after r) (called n kind argument after r p)
+-- and so does a call in place, on the record that the lent arrays make
+abbrev pub lentAs : (κs : Lfts 10) → Dens κs lent-kinds.ps → Network
+lentAs κs a =
+    let b = a .1 in
+    let sizes = b .1 .1 .1 .1 .1 .1 .1 .1 .1 in
+    let t = sizes .1 .1 .1 .0 in
+    record {
+      node = now (a .0);
+      live = now (b .0);
+      out = now (b .1 .0);
+      local = now (b .1 .1 .0);
+      remote = now (b .1 .1 .1 .0);
+      mark = now (b .1 .1 .1 .1 .0);
+      turns = now (b .1 .1 .1 .1 .1 .0);
+      number = now (b .1 .1 .1 .1 .1 .1 .0);
+      lane = now (b .1 .1 .1 .1 .1 .1 .1 .0);
+      bit = now (b .1 .1 .1 .1 .1 .1 .1 .1 .0);
+      nodes = sizes .0;
+      destination = sizes .1 .0;
+      links = sizes .1 .1 .0;
+      flying = t .flying;
+      events = t .events;
+      admitted = t .admitted;
+      delivered = t .delivered;
+      lost = t .lost;
+      stranded = t .stranded;
+    }
+
+pub lent-runs : (κs : Lfts 10) (a : Dens κs lent-kinds.ps) (r : Step) (x : AtExit (endedOf 10 lent-kinds.ps lent-kinds.r) κs)
+    → lent.Post κs a r x → (es : List Event) → Run (lentAs κs a) es
+    → let call = a .1 .1 .1 .1 .1 .1 .1 .1 .1 .1 .1 .1 .1 .1 in
+    Run (remade (lentAs κs a) (left κs x) (r .tally)) (es ++ eventIf (ofKind (call .0)) (call .1 .0))
+lent-runs κs a r x p es h =
+    let call = a .1 .1 .1 .1 .1 .1 .1 .1 .1 .1 .1 .1 .1 .1 in
+    applied (lentAs κs a) es h (call .0) (call .1 .0) (moved (lentAs κs a) (call .0) (call .1 .0) (left κs x) r)
+    (called (lentAs κs a) (call .0) (call .1 .0) (left κs x) r p)
