@@ -28,7 +28,7 @@ use Rattle.model.specs.Answers as answers
 use Rattle.model.specs.File.{Header, opening}
 use Rattle.model.specs.Cases.{one-link, away-from}
 use Rattle.model.specs.Shown.{ran, Met, zigzag, two-turns, longer-zigzag, three-turns, circle, circle-turns, shortcut}
-use Rattle.model.specs.Promises.{BoundMet, HistoriesAre, PlacesShown, AgreementTells}
+use Rattle.model.specs.Promises.{BoundMet, HistoriesAre, PlacesShown, AgreementTells, BytesTell}
 use Rattle.model.proofs.Below.{and-both}
 use Rattle.model.proofs.Bound.{bound}
 use Rattle.model.proofs.Full.{after-append}
@@ -132,3 +132,7 @@ agreement-tells =
       new-then-old = λ a. not-turned false true (λ e. true≢false (sym e)) (a .from-me);
       told-from-you = λ a. not-all false true (λ e. true≢false (sym e)) (a .from-you);
     }
+
+-- ---- bytes
+pub bytes-tell : BytesTell
+bytes-tell = record { largest = λ i. elim i [ zero ↦ omega arith | suc j ↦ omega arith ]; too-large = λ b. omega (arith, b 0) }

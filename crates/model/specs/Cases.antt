@@ -154,6 +154,23 @@ others =
     ∷ row (opens (net 2 0 (1 ∷ []))) (answers 2 0)
     ∷ row (opens (net 3 0 (1 ∷ 0 ∷ 1 ∷ 3 ∷ 2 ∷ 2 ∷ []))) (answers 3 1)
     ∷ row (opens (net 3 0 (0 ∷ 1 ∷ 1 ∷ 0 ∷ 2 ∷ 2 ∷ []))) (answers 3 2)
+    -- a refused opening gives the record of one node, just opened
+    ∷ row (all-of (net 3 3 (1 ∷ 0 ∷ [])) [])
+    (leaves
+    (record {
+      nodes = 1;
+      destination = 0;
+      links = 0;
+      node = [];
+      up = [];
+      out = [];
+      local = [];
+      remote = [];
+      mark = [];
+      turns = 0 ∷ [];
+      flight = [];
+      counts = count 0 0 0 0 0;
+    }))
     -- a header: its numbers (11), then 2, then the links (11), then 3
     ∷ row (file (1 ∷ 0 ∷ [])) (answers 11 2)
     ∷ row (file (1 ∷ 0 ∷ 1 ∷ [])) (answers 11 3)

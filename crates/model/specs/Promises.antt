@@ -195,6 +195,11 @@ pub record ReadBack : Type 0 where
       → readHeader (before ++ (headerBytes h ++ after)) (length before) ≡ had h (length before + length (headerBytes h))
   pub drill : (d : Drill) → Writable d → read (write d) ≡ had d (length (write d))
 
+-- An entry of a file is a byte: 255 is one, 256 is none.
+pub record BytesTell : Type 0 where
+  pub largest : Bytes (255 ∷ [])
+  pub too-large : Bytes (256 ∷ []) → ⊥
+
 -- "shortest form only": what is read is the one writing of what it gives. A file that is read whole is what its drill is written as, so two
 -- files that give the same drill are the same file.
 pub record OneWriting (file : List ℕ) : Type 0 where
