@@ -11,7 +11,7 @@ use sums::of_bytes;
 use sums::of_record;
 use sums::wide;
 
-// The position after what was read, where there is one.
+// The position after what was read, where reading goes on.
 pub(crate) enum After {
     At(usize),
     Nothing,
@@ -57,14 +57,16 @@ fn got_fields(got: Got) -> After {
             field(next.at);
             After::At(next.at)
         }
-        Got::End(_) => {
-            word(b" 0 0 - - -");
+        Got::End(next) => {
+            word(b" 0 0 - -");
+            field(next.at);
             After::Nothing
         }
-        Got::Spoilt(place, _) => {
+        Got::Spoilt(place, next) => {
             word(b" 11");
             field(place);
-            word(b" - - -");
+            word(b" - -");
+            field(next.at);
             After::Nothing
         }
     }
@@ -79,13 +81,12 @@ pub(crate) fn event_line(f: File, position: usize) -> After {
     after
 }
 
-// A refused header has no position after it.
+// Nothing is read after a refused header.
 fn after_header(answer: u32, next: usize) -> After {
+    field(next);
     if answer == 0 {
-        field(next);
         return After::At(next);
     }
-    word(b" -");
     After::Nothing
 }
 
