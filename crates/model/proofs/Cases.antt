@@ -21,7 +21,8 @@ use Rattle.model.specs.History.{after}
 use Rattle.model.specs.Number.{groups, join, numberIn, readNumber}
 use Rattle.model.specs.File.{readNumbers, readHeader, ofKind, readEvent, eventsFrom, readEvents, read}
 use Rattle.model.specs.Turns.{about, turnsIn}
-use Rattle.model.specs.Writing.{numbersBytes, store, writeHeader, writeEvent}
+use Rattle.model.specs.Writing.{numbersBytes, eventsBytes, write, store, writeHeader, writeEvent}
+use Rattle.model.specs.Writable.{writeEvents, writePieces}
 use Rattle.model.specs.Text.{ascii, digitsIn, spaced, line, eventLines, drillText, drillOutput}
 use Rattle.model.specs.Rows.{changed, made, gave, fromOutcome, listed, given, Hold}
 use Rattle.model.specs.Cases.{count, cases, others}
@@ -29,7 +30,7 @@ use Rattle.model.proofs.Full.{packets, sent, from-full}
 
 -- the rows on each side of those
 sides : (Hold (take 13 cases) × Hold (drop 15 cases)) × (Hold (take 27 others) × Hold (drop 28 others))
-unfolding any all first tab opp whole xor hasLive hasOut hasMark turn update door pass sized limitsHold linkFormed endFormed packetFormed packetsFormed turnsFormed summed wellFormed accepting counted onward sendTo onLane less taken offLane news arrives deliverOn loseOn off cut failOf event opened setsOut holdsClosedWalk firstBadLink openFrom after groups join numberIn readNumber readNumbers readHeader ofKind readEvent eventsFrom readEvents read ascii digitsIn spaced line eventLines drillText drillOutput about turnsIn numbersBytes store writeHeader writeEvent changed made listed given
+unfolding any all first tab opp whole xor hasLive hasOut hasMark turn update door pass sized limitsHold linkFormed endFormed packetFormed packetsFormed turnsFormed summed wellFormed accepting counted onward sendTo onLane less taken offLane news arrives deliverOn loseOn off cut failOf event opened setsOut holdsClosedWalk firstBadLink openFrom after groups join numberIn readNumber readNumbers readHeader ofKind readEvent eventsFrom readEvents read ascii digitsIn spaced line eventLines drillText drillOutput about turnsIn numbersBytes eventsBytes write store writeHeader writeEvent writeEvents writePieces changed made listed given
 sides = ((refl, refl), (refl, refl))
 
 -- those, from the full link on

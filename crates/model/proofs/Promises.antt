@@ -1,5 +1,5 @@
 -- A term for each promise of specs/Promises.antt. Assumes nothing.
-use Rattle.model.specs.Promises.{CasesHold, OthersHold, FourExactly, FormedKept, RefusedSame, WayOut, NineExactly, FailKeeps, Named, TurnsBounded, TurnsCounted, EndsAgree, TenNever, FourPlaces, BoundMet, HistoriesAre, PlacesShown, AgreementTells, BytesTell, ReadBack, OneWritingEach, ReadingEnds, PiecesMakeWhole, TextFits}
+use Rattle.model.specs.Promises.{CasesHold, OthersHold, FourExactly, FormedKept, RefusedSame, WayOut, NineExactly, FailKeeps, Named, TurnsBounded, TurnsCounted, EndsAgree, TenNever, FourPlaces, BoundMet, HistoriesAre, PlacesShown, AgreementTells, TurnsShown, WritableTells, ReadBack, OneWritingEach, ReadingEnds, PiecesMakeWhole, TextFits}
 use Rattle.model.proofs.Cases as cases
 use Rattle.model.proofs.Opening as opening
 use Rattle.model.proofs.Single as single
@@ -69,8 +69,11 @@ places-shown = shown.places-shown
 pub agreement-tells : AgreementTells
 agreement-tells = shown.agreement-tells
 
-pub bytes-tell : BytesTell
-bytes-tell = shown.bytes-tell
+pub turns-shown : TurnsShown
+turns-shown = shown.turns-shown
+
+pub writable-tells : WritableTells
+writable-tells = shown.writable-tells
 
 pub read-back : ReadBack
 read-back = read-back-of.read-back

@@ -21,14 +21,15 @@ use Rattle.model.specs.Events.{Event, send, fail, event}
 use Rattle.model.specs.Opening.{opened, setsOut, holdsClosedWalk, firstBadLink, openFrom}
 use Rattle.model.specs.History.{History, start, next, after, goesOn, Ran}
 use Rattle.model.specs.Paths.{Joined, here, over}
-use Rattle.model.specs.Places.{those, placedBy, placed}
+use Rattle.model.specs.Turns.{about, turnsIn, turnEvents}
+use Rattle.model.specs.Places.{those, placedBy, placed, times}
 use Rattle.model.specs.Agreement.{bitsOn, OldThenNew, AllAre}
 use Rattle.model.specs.Rows.{changed, made}
 use Rattle.model.specs.Answers as answers
 use Rattle.model.specs.File.{Header, opening}
 use Rattle.model.specs.Cases.{one-link, away-from}
 use Rattle.model.specs.Shown.{ran, Met, zigzag, two-turns, longer-zigzag, three-turns, circle, circle-turns, shortcut}
-use Rattle.model.specs.Promises.{BoundMet, HistoriesAre, PlacesShown, AgreementTells, BytesTell}
+use Rattle.model.specs.Promises.{BoundMet, HistoriesAre, PlacesShown, AgreementTells, WritableTells, TurnsShown}
 use Rattle.model.proofs.Below.{and-both}
 use Rattle.model.proofs.Bound.{bound}
 use Rattle.model.proofs.Full.{after-append}
@@ -100,10 +101,15 @@ histories-are =
       only = λ s h. only h;
     }
 
+-- ---- turns
+pub turns-shown : TurnsShown
+unfolding any all first tab opp whole xor hasLive hasOut hasMark turn update door pass sized limitsHold linkFormed endFormed packetFormed packetsFormed turnsFormed summed wellFormed accepting counted onward sendTo onLane less taken offLane news arrives deliverOn loseOn off cut failOf event opened setsOut holdsClosedWalk firstBadLink openFrom after about turnsIn goesOn turnEvents
+turns-shown h = refl
+
 -- ---- places
 pub places-shown : PlacesShown
-unfolding any all first tab opp whole xor hasLive hasOut hasMark turn update door pass sized limitsHold linkFormed endFormed packetFormed packetsFormed turnsFormed summed wellFormed accepting counted onward sendTo onLane less taken offLane news arrives deliverOn loseOn off cut failOf event opened setsOut holdsClosedWalk firstBadLink openFrom after goesOn those placedBy placed
-places-shown h = refl
+unfolding any all first tab opp whole xor hasLive hasOut hasMark turn update door pass sized limitsHold linkFormed endFormed packetFormed packetsFormed turnsFormed summed wellFormed accepting counted onward sendTo onLane less taken offLane news arrives deliverOn loseOn off cut failOf event opened setsOut holdsClosedWalk firstBadLink openFrom after goesOn those placedBy placed times
+places-shown = record { crowded = λ h. refl; twice = refl; in-each = refl; shown = refl }
 
 -- ---- agreement
 -- a bit and then the other are no run of the first
@@ -133,6 +139,14 @@ agreement-tells =
       told-from-you = λ a. not-all false true (λ e. true≢false (sym e)) (a .from-you);
     }
 
--- ---- bytes
-pub bytes-tell : BytesTell
-bytes-tell = record { largest = λ i. elim i [ zero ↦ omega arith | suc j ↦ omega arith ]; too-large = λ b. omega (arith, b 0) }
+-- ---- what can be written
+pub writable-tells : WritableTells
+unfolding any all first tab sized setsOut holdsClosedWalk firstBadLink opened openFrom
+writable-tells =
+    record {
+      largest-byte = λ i. elim i [ zero ↦ omega arith | suc j ↦ omega arith ];
+      no-byte = λ b. omega (arith, b 0);
+      largest-argument = record { header = refl; arguments = (omega arith, tt) };
+      no-argument = λ w. omega (arith, w .arguments .1 .0);
+      no-opening = λ w. omega (arith, w .header);
+    }

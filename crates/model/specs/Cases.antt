@@ -10,9 +10,9 @@ use Rattle.model.specs.Limits.{endsMost, textMost}
 use Rattle.model.specs.State.{Packet as Packets, Counts}
 use Rattle.model.specs.Events.{send, deliver, lose, fail}
 use Rattle.model.specs.Number.{had, refused}
-use Rattle.model.specs.File.{Header}
+use Rattle.model.specs.File.{Header, Drill}
 use Rattle.model.specs.Text.{ascii}
-use Rattle.model.specs.Rows.{nodes-are, destination-is, links-are, node-is, turns-are, up-is, out-is, mark-is, flight-is, counts-are, unchanged, unreversed, gone, turned, opens, last, all-of, on-made, formed, judges, writes, reads, puts-event, puts-header, file, runs, prints, limit, answers, gave, leaves, bytes, number, told, wrote, is, Case, row}
+use Rattle.model.specs.Rows.{nodes-are, destination-is, links-are, node-is, turns-are, up-is, out-is, mark-is, flight-is, counts-are, unchanged, unreversed, gone, turned, opens, last, all-of, on-made, formed, judges, writes, reads, puts-event, puts-header, writes-drill, pieces, file, runs, prints, limit, answers, gave, leaves, bytes, number, told, wrote, is, Case, row}
 
 abbrev pub net : ℕ → ℕ → List ℕ → Header
 net nodes destination list = record { nodes = nodes; destination = destination; list = list }
@@ -53,6 +53,10 @@ strands =
 abbrev pub strands-text : String
 strands-text =
     "1 0 0 end\n2 0 1 end\n3 0 2 end\n4 0 3 in\n5 0 4 0\n6 0 5 0\n7 0 6 0\n8 0 7 0\n9 0 8 0\n10 0 9 0\n11 0 4 lost\n12 0 5 lost\ntotal 10 1 2 3 4\nturns 0 0 0\n"
+
+-- a send at node 1 and a delivery of lane 128 on one link
+abbrev pub two-events : Drill
+two-events = record { header = one-link; events = send 1 ∷ deliver 128 ∷ [] }
 
 abbrev pub cases : List Case
 cases =
@@ -312,6 +316,9 @@ others =
     ∷ row (puts-header (net 2 2 []) []) (wrote 2 0 0 [])
     ∷ row (puts-header (net 3 0 (1 ∷ 0 ∷ 2 ∷ 2 ∷ [])) []) (wrote 3 1 0 [])
     ∷ row (puts-header (net 2 0 (0 ∷ 1 ∷ 1 ∷ 0 ∷ [])) []) (wrote 4 0 0 [])
+    -- a drill written whole, and piece by piece into a part
+    ∷ row (writes-drill two-events) (bytes (2 ∷ 0 ∷ 1 ∷ 1 ∷ 0 ∷ 1 ∷ 1 ∷ 2 ∷ 0x80 ∷ 0x01 ∷ []))
+    ∷ row (pieces two-events (replicate 11 9)) (bytes (2 ∷ 0 ∷ 1 ∷ 1 ∷ 0 ∷ 1 ∷ 1 ∷ 2 ∷ 0x80 ∷ 0x01 ∷ 9 ∷ []))
     -- a refused header's text; packets lost, stranded, delivered and in flight, each another number
     ∷ row (prints (3 ∷ 0 ∷ 2 ∷ 1 ∷ 0 ∷ 2 ∷ 2 ∷ [])) (bytes (ascii "refused 3 1\n"))
     ∷ row (prints strands) (bytes (ascii strands-text))

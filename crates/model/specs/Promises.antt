@@ -10,7 +10,7 @@ use Rattle.model.specs.declared.Handled.the-variants as handled
 use Rattle.model.specs.declared.Went.the-variants as went
 use Rattle.model.specs.Limits.{endsMost, flightMost, eventsMost, numberMost, textMost}
 use Rattle.model.specs.Answers as answers
-use Rattle.model.specs.Below.{all}
+use Rattle.model.specs.Below.{all, tab}
 use Rattle.model.specs.State.{end, opp, State, lanes, whole}
 use Rattle.model.specs.Formed.{endFormed, wellFormed}
 use Rattle.model.specs.Departure.{outAt, hasLive, hasOut, update, door}
@@ -23,14 +23,14 @@ use Rattle.model.specs.History.{History, start, after, goesOn, Ran}
 use Rattle.model.specs.Paths.{Joined}
 use Rattle.model.specs.Agreement.{Agree, Untold}
 use Rattle.model.specs.Turns.{turnEvents}
-use Rattle.model.specs.Places.{placed, inAll, sentAs}
+use Rattle.model.specs.Places.{placed, times, inAll, sentAs}
 use Rattle.model.specs.Number.{numberBytes, had, readNumber}
 use Rattle.model.specs.File.{Header, opening, readHeader, argument, readEvent, andMore, eventsFrom, readEvents, Drill, read}
 use Rattle.model.specs.Writing.{headerBytes, eventBytes, write}
 use Rattle.model.specs.Writable.{Bytes, Writable, writePieces}
 use Rattle.model.specs.Text.{drillOutput}
 use Rattle.model.specs.Rows.{local-is, flight-is, Hold}
-use Rattle.model.specs.Cases.{packet, one-link, away-from, cases, others}
+use Rattle.model.specs.Cases.{net, packet, one-link, away-from, cases, others}
 use Rattle.model.specs.Shown.{ran, Met, zigzag, two-turns, longer-zigzag, three-turns, circle, circle-turns, shortcut, crowd, crowd-events, heard, unheard}
 
 -- "P1 to P12 are proved about the definitions, as a single table under a single statement." Beside it the further cases.
@@ -160,15 +160,25 @@ pub record HistoriesAre : Type 0 where
   pub every : (s : State) → Ran s → History s
   pub only : (s : State) → History s → Ran s
 
--- The four places after events of every kind, each in the order in which the packets came there.
-abbrev pub PlacesShown : Type 0
-PlacesShown = (h : opening crowd .answer ≡ answers.done) → placed (goesOn (start (crowd .nodes) (crowd .destination) (crowd .list) h) crowd-events)
-    ≡ record {
-      flying = record { number = 6; lane = 0 } ∷ record { number = 9; lane = 0 } ∷ record { number = 8; lane = 0 } ∷ [];
-      delivered = 4 ∷ 1 ∷ [];
-      lost = 0 ∷ 2 ∷ 5 ∷ [];
-      stranded = 3 ∷ 7 ∷ [];
-    }
+-- The turn events of each node in a history, whatever its record keeps.
+abbrev pub TurnsShown : Type 0
+TurnsShown = (h : opening zigzag .answer ≡ answers.done)
+    → tab (turnEvents (goesOn (start (zigzag .nodes) (zigzag .destination) (zigzag .list) h) two-turns)) 4 ≡ 0 ∷ 1 ∷ 2 ∷ 1 ∷ []
+
+-- The four places after events of every kind, each in the order in which the packets came there; how often a number stands in them; what
+-- the record shows of a packet in flight.
+pub record PlacesShown : Type 0 where
+  pub crowded : (h : opening crowd .answer ≡ answers.done)
+      → placed (goesOn (start (crowd .nodes) (crowd .destination) (crowd .list) h) crowd-events)
+      ≡ record {
+        flying = record { number = 6; lane = 0 } ∷ record { number = 9; lane = 0 } ∷ record { number = 8; lane = 0 } ∷ [];
+        delivered = 4 ∷ 1 ∷ [];
+        lost = 0 ∷ 2 ∷ 5 ∷ [];
+        stranded = 3 ∷ 7 ∷ [];
+      }
+  pub twice : times 3 (3 ∷ 4 ∷ 3 ∷ []) ≡ 2
+  pub in-each : inAll 3 (record { flying = record { number = 3; lane = 5 } ∷ []; delivered = 3 ∷ []; lost = 3 ∷ []; stranded = 3 ∷ [] }) ≡ 4
+  pub shown : sentAs (packet 3 5 true) ≡ record { number = 3; lane = 5 }
 
 -- Ends that agree, an end that has yet to hear, and what is neither: a local bit, or a packet's bit, that is another.
 pub record AgreementTells : Type 0 where
@@ -195,10 +205,14 @@ pub record ReadBack : Type 0 where
       → readHeader (before ++ (headerBytes h ++ after)) (length before) ≡ had h (length before + length (headerBytes h))
   pub drill : (d : Drill) → Writable d → read (write d) ≡ had d (length (write d))
 
--- An entry of a file is a byte: 255 is one, 256 is none.
-pub record BytesTell : Type 0 where
-  pub largest : Bytes (255 ∷ [])
-  pub too-large : Bytes (256 ∷ []) → ⊥
+-- An entry of a file is a byte: 255 is one, 256 is none. A drill can be written where its opening is accepted and each argument is at most
+-- 2,097,151.
+pub record WritableTells : Type 0 where
+  pub largest-byte : Bytes (255 ∷ [])
+  pub no-byte : Bytes (256 ∷ []) → ⊥
+  pub largest-argument : Writable (record { header = one-link; events = send 2_097_151 ∷ [] })
+  pub no-argument : Writable (record { header = one-link; events = send 0 ∷ send 2_097_152 ∷ [] }) → ⊥
+  pub no-opening : Writable (record { header = net 2 0 (0 ∷ 1 ∷ 1 ∷ 0 ∷ []); events = [] }) → ⊥
 
 -- "shortest form only": what is read is the one writing of what it gives. A file that is read whole is what its drill is written as, so two
 -- files that give the same drill are the same file.

@@ -17,7 +17,8 @@ use Rattle.model.specs.History.{after}
 use Rattle.model.specs.Turns.{about, turnsIn}
 use Rattle.model.specs.Number.{numberBytes, Read, had, refused, readNumber}
 use Rattle.model.specs.File.{Header, opening, Drill, read}
-use Rattle.model.specs.Writing.{Written, writeHeader, writeEvent}
+use Rattle.model.specs.Writing.{write, Written, writeHeader, writeEvent}
+use Rattle.model.specs.Writable.{writePieces}
 use Rattle.model.specs.Text.{drillOutput}
 
 -- A state with its functions written out over the entries in use: every field of the record.
@@ -134,6 +135,9 @@ pub data Given : Type 0 where
   reads : List ℕ → Given
   puts-event : ℕ → ℕ → List ℕ → Given
   puts-header : Header → List ℕ → Given
+  -- a drill to write, whole and piece by piece into a part
+  writes-drill : Drill → Given
+  pieces : Drill → List ℕ → Given
   -- a drill file: what reading it answers, the record that it leaves, the program's text
   file : List ℕ → Given
   runs : List ℕ → Given
@@ -186,6 +190,8 @@ given (writes n) = bytes (numberBytes n)
 given (reads bs) = number (readNumber bs 0)
 given (puts-event kind a part) = fromWritten (writeEvent kind a part)
 given (puts-header h part) = fromWritten (writeHeader h part)
+given (writes-drill d) = bytes (write d)
+given (pieces d part) = bytes (writePieces d part)
 given (file bs) = fromRead (read bs)
 given (runs bs) = fromRun (read bs)
 given (prints bs) = bytes (drillOutput bs)
