@@ -270,6 +270,8 @@ others =
     ∷ row (formed one-link (send 1 ∷ []) (flight-is (packet 0 2 false ∷ []) ∷ [])) (told false)
     ∷ row (formed one-link (send 1 ∷ []) (flight-is (packet 1 0 false ∷ []) ∷ [])) (told false)
     ∷ row (formed one-link (send 1 ∷ []) (up-is 0 false ∷ mark-is 1 false ∷ [])) (told false)
+    ∷ row (formed one-link (send 1 ∷ send 1 ∷ []) []) (told true)
+    ∷ row (formed one-link (send 1 ∷ send 1 ∷ []) (flight-is (packet 0 0 false ∷ packet 2 0 false ∷ []) ∷ [])) (told false)
     -- admitted and every node's turns are at most events, and the sum
     ∷ row (formed one-link (send 1 ∷ []) (turns-are 1 1 ∷ [])) (told true)
     ∷ row (formed one-link (send 1 ∷ []) (turns-are 1 2 ∷ [])) (told false)
