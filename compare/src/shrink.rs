@@ -52,7 +52,7 @@ struct Parts {
 impl Parts {
     fn of(file: &[u8]) -> Option<Parts> {
         let header = read_header(file, 0);
-        let mut at = header.next?;
+        let mut at = header.events()?;
         let record = header.opening.record;
         let ends = record.used_links().iter().flat_map(|link| link.ends);
         let mut events = Vec::new();

@@ -5,28 +5,35 @@ use crate::events::Event;
 use crate::number;
 use crate::opening::{inspect, inspect_sizes, open, Opening};
 
-/// What reading one event at a position gives.
+/// What reading one event at a position gives, and the position after it.
 #[derive(Clone, Copy, Debug, PartialEq, Eq)]
 pub enum Reading {
-    /// "A file that ends between events is whole."
-    End,
+    /// "A file that ends between events is whole." The position is then the
+    /// file's length: one "past the file's end counts as the end".
+    End {
+        next: usize,
+    },
     Event {
         event: Event,
         next: usize,
     },
-    /// Answer 11, with its place.
+    /// Answer 11, with its place; the position stays at the event's kind.
     Spoilt {
         place: usize,
+        next: usize,
     },
 }
 
 pub fn read_event(bytes: &[u8], position: usize) -> Reading {
     if position >= bytes.len() {
-        return Reading::End;
+        return Reading::End { next: bytes.len() };
     }
     match kind_and_argument(bytes, position) {
         Ok((event, next)) => Reading::Event { event, next },
-        Err(place) => Reading::Spoilt { place },
+        Err(place) => Reading::Spoilt {
+            place,
+            next: position,
+        },
     }
 }
 
@@ -42,22 +49,31 @@ fn kind_and_argument(bytes: &[u8], position: usize) -> Result<(Event, usize), us
         .ok_or(position)
 }
 
-/// A header read, and the position after it; no position if it is refused.
+/// A header read, and the position after it. A refused header leaves the
+/// position where it was asked for, also past the file's end.
 #[derive(Clone, Debug, PartialEq, Eq)]
 pub struct Header {
     pub opening: Opening,
-    pub next: Option<usize>,
+    pub next: usize,
+}
+
+impl Header {
+    /// Where the events start; nowhere if the header is refused.
+    pub fn events(&self) -> Option<usize> {
+        (self.opening.answer == DONE).then_some(self.next)
+    }
 }
 
 pub fn read_header(bytes: &[u8], position: usize) -> Header {
     match header_fields(bytes, position) {
         Err(refusal) => Header {
             opening: Opening::refused(refusal),
-            next: None,
+            next: position,
         },
-        Ok((nodes, destination, list, next)) => {
+        Ok((nodes, destination, list, after)) => {
             let opening = open(nodes, destination, &list);
-            let next = (opening.answer == DONE).then_some(next);
+            let done = opening.answer == DONE;
+            let next = if done { after } else { position };
             Header { opening, next }
         }
     }

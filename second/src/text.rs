@@ -15,12 +15,13 @@ pub fn drill(bytes: &[u8], program: Program, watch: Option<&mut dyn Watch>) -> S
         return format!("refused {SPOILT} {FILE}\n");
     }
     let header = read_header(bytes, 0);
+    let start = header.events();
     let opening = header.opening;
     let mut watch = watch;
     if let Some(watch) = watch.as_deref_mut() {
         watch.opened(opening.answer, &opening.record);
     }
-    let Some(start) = header.next else {
+    let Some(start) = start else {
         return format!("refused {} {}\n", opening.answer, opening.place);
     };
     let mut record = opening.record;
@@ -41,9 +42,9 @@ fn events(
     let mut position = start;
     for ordinal in 1.. {
         let (event, next) = match read_event(bytes, position) {
-            Reading::End => return,
+            Reading::End { .. } => return,
             Reading::Event { event, next } => (event, next),
-            Reading::Spoilt { place } => {
+            Reading::Spoilt { place, .. } => {
                 text.push_str(&format!("spoilt {SPOILT} {place}\n"));
                 if let Some(watch) = watch.as_deref_mut() {
                     watch.spoilt();

@@ -46,8 +46,8 @@ fn refused(answer: Answer) -> Outcome {
 
 fn run(bytes: &[u8]) -> Record {
     let header = read_header(bytes, 0);
+    let mut at = header.events().expect("a good header");
     let mut record = header.opening.record;
-    let mut at = header.next.expect("a good header");
     while let Reading::Event { event, next } = read_event(bytes, at) {
         apply(&mut record, event);
         at = next;

@@ -47,10 +47,63 @@ fn positions_at_and_past_the_end() {
     assert_eq!(number::read(&bytes, 1), Err(1));
     for position in [2, 3, 1000, usize::MAX] {
         assert_eq!(number::read(&bytes, position), Err(2));
-        assert_eq!(read_event(&bytes, position), Reading::End);
+        assert_eq!(read_event(&bytes, position), Reading::End { next: 2 });
         let opening = read_header(&bytes, position).opening;
         assert_eq!((opening.answer, opening.place), (SPOILT, 2));
         assert_eq!(opening.record, Record::lone());
+    }
+}
+
+/// A refused header leaves the position where it was asked for: in the middle
+/// for each of the answers 11, 2, 3, 4, and past the file's end.
+#[test]
+fn a_refused_header_leaves_the_position() {
+    let files = [
+        (&[9, 3, 0, 2, 1, 1, 0][..], SPOILT, 7),
+        (&[9, 65, 0, 0, 1, 0], BAD_SIZES, 0),
+        (&[9, 3, 0, 2, 0, 1, 2, 2, 1, 0], BAD_LINK, 1),
+        (&[9, 2, 0, 2, 0, 1, 1, 0, 1, 0], CLOSED_WALK, 0),
+    ];
+    for (bytes, answer, place) in files {
+        let header = read_header(bytes, 1);
+        let opening = &header.opening;
+        assert_eq!((opening.answer, opening.place), (answer, place));
+        assert_eq!((header.next, header.events()), (1, None));
+        for position in [bytes.len(), bytes.len() + 1, 1000, usize::MAX] {
+            let header = read_header(bytes, position);
+            assert_eq!(header.opening.place, bytes.len());
+            assert_eq!((header.next, header.events()), (position, None));
+        }
+    }
+    let header = read_header(&[9, 3, 0, 2, 1, 0, 2, 0, 1, 1], 1);
+    assert_eq!((header.next, header.events()), (8, Some(8)));
+}
+
+/// The position stays at the event's kind, wherever the trouble is.
+#[test]
+fn a_spoilt_event_leaves_the_position() {
+    let files = [
+        (&[9, 5, 0][..], 1),
+        (&[9, 0x81, 0], 1),
+        (&[9, 0x80], 1),
+        (&[9, 1], 2),
+        (&[9, 1, 0x80], 2),
+        (&[9, 4, 0x80, 0], 2),
+    ];
+    for (bytes, place) in files {
+        let next = 1;
+        assert_eq!(read_event(bytes, 1), Reading::Spoilt { place, next });
+    }
+}
+
+/// Asked for at the end or past it, the position is the file's length.
+#[test]
+fn the_end_is_the_length_of_the_file() {
+    for bytes in [&[][..], &[1, 0], &[1, 0, 5]] {
+        let next = bytes.len();
+        for position in [next, next + 1, 1000, usize::MAX] {
+            assert_eq!(read_event(bytes, position), Reading::End { next });
+        }
     }
 }
 
@@ -104,7 +157,7 @@ fn headers_into_every_length() {
         let needed = 3 + list.len() + usize::from(list.len() >= 256);
         let write = |part: &mut [u8]| write_header(nodes, destination, list, part);
         let header = read_header(&into_every_length(needed, write), 0);
-        assert_eq!(header.next, Some(needed));
+        assert_eq!(header.events(), Some(needed));
         assert_eq!(header.opening, open(nodes, destination, list));
     }
 }

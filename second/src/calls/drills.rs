@@ -58,12 +58,12 @@ fn damages(random: &mut Random, file: &[u8]) -> [Vec<u8>; 6] {
 fn read_whole(bytes: &[u8], text: &mut String) {
     file_line(bytes, text);
     header_line(bytes, 0, text);
-    let mut position = read_header(bytes, 0).next;
+    let mut position = read_header(bytes, 0).events();
     while let Some(at) = position {
         event_line(bytes, at as u32, text);
         position = match read_event(bytes, at) {
             Reading::Event { next, .. } => Some(next),
-            Reading::End | Reading::Spoilt { .. } => None,
+            Reading::End { .. } | Reading::Spoilt { .. } => None,
         };
     }
 }

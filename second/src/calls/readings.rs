@@ -185,8 +185,8 @@ fn number_line(bytes: &[u8], position: u32, text: &mut String) {
 
 pub fn event_line(bytes: &[u8], position: u32, text: &mut String) {
     let words = match read_event(bytes, position as usize) {
-        Reading::End => "0 0 - - -".to_string(),
-        Reading::Spoilt { place } => format!("11 {place} - - -"),
+        Reading::End { next } => format!("0 0 - - {next}"),
+        Reading::Spoilt { place, next } => format!("11 {place} - - {next}"),
         Reading::Event { event, next } => {
             let (kind, argument) = event.kind_and_argument();
             format!("0 0 {kind} {argument} {next}")
@@ -197,11 +197,11 @@ pub fn event_line(bytes: &[u8], position: u32, text: &mut String) {
 
 pub fn header_line(bytes: &[u8], position: u32, text: &mut String) {
     let header = read_header(bytes, position as usize);
-    let next = header.next.map_or("-".to_string(), |next| next.to_string());
     text.push_str(&format!(
-        "r {position} {} {} {next} {}\n",
+        "r {position} {} {} {} {}\n",
         header.opening.answer,
         header.opening.place,
+        header.next,
         sum::of_record(&header.opening.record)
     ));
 }
