@@ -1,6 +1,6 @@
 //! docs/ARCHITECTURE.md: its steps are in the tree, its crates are all of them.
 
-use crate::held;
+use crate::columns;
 use crate::names::Column::{self, Stated, Words};
 use crate::table::rows;
 use crate::tree::Tree;
@@ -11,7 +11,7 @@ const COLUMNS: [Column; 4] = [Stated, Stated, Stated, Words];
 
 /// What is wrong with the page's text, a line each.
 pub fn faults(tree: &Tree, text: &str) -> Vec<String> {
-    let mut faults = held::faults(tree, PAGE, text, "Step", &COLUMNS);
+    let mut faults = columns::faults(tree, PAGE, &rows(text, "Step"), &COLUMNS);
     let rows = rows(text, "In crates/");
     let told: Vec<&str> = rows
         .iter()

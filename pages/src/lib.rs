@@ -3,10 +3,10 @@
 
 pub mod architecture;
 pub mod code;
+pub mod columns;
 pub mod definitions;
 pub mod example;
 pub mod exceptions;
-pub mod held;
 pub mod links;
 pub mod names;
 pub mod promises;

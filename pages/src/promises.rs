@@ -1,6 +1,6 @@
 //! docs/PROMISES.md: every name is in the tree, every edit is on the page.
 
-use crate::held;
+use crate::columns;
 use crate::names::Column::{self, MustFail, Run, Stated, Words};
 use crate::table::{quoted, rows};
 use crate::tree::Tree;
@@ -12,8 +12,8 @@ const COLUMNS: [Column; 4] = [Words, Stated, MustFail, Run];
 
 /// What is wrong with the page's text, a line each.
 pub fn faults(tree: &Tree, text: &str) -> Vec<String> {
-    let mut faults = held::faults(tree, PAGE, text, HEADING, &COLUMNS);
     let rows = rows(text, HEADING);
+    let mut faults = columns::faults(tree, PAGE, &rows, &COLUMNS);
     let named = |edit: &str| {
         let cells = rows.iter().filter_map(|row| row.cells.get(2));
         cells

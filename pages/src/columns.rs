@@ -1,19 +1,13 @@
 //! Names in the tables of a page, column by column, held to the tree.
 
 use crate::names::{parse, Column};
-use crate::table::{quoted, rows};
+use crate::table::{quoted, Row};
 use crate::tree::Tree;
 
-/// What is wrong in the tables with this heading, a line each.
-pub fn faults(
-    tree: &Tree,
-    page: &str,
-    text: &str,
-    heading: &str,
-    columns: &[Column],
-) -> Vec<String> {
+/// What is wrong in these rows of a page, a line each.
+pub fn faults(tree: &Tree, page: &str, rows: &[Row], columns: &[Column]) -> Vec<String> {
     let mut faults = Vec::new();
-    for row in rows(text, heading) {
+    for row in rows {
         let words = row_faults(tree, &row.cells, columns).into_iter();
         faults.extend(words.map(|words| format!("{page}:{}: {words}", row.line)));
     }
