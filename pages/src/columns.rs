@@ -31,7 +31,8 @@ fn cell_faults(tree: &Tree, column: Column, cell: &str) -> Vec<String> {
     let Some(names) = quoted(cell) else {
         return vec!["a backtick that is not closed".to_string()];
     };
-    let stands = |name: &str| parse(column, name).is_some_and(|name| tree.has(&name));
+    let any = matches!(column, Column::Any);
+    let stands = |name: &str| any || parse(column, name).is_some_and(|name| tree.has(&name));
     let missing = names.into_iter().filter(|name| !stands(name));
     missing
         .map(|name| format!("`{name}` is not in the tree"))

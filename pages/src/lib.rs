@@ -2,9 +2,11 @@
 //! misleads, and nobody notices by reading it.
 
 pub mod architecture;
+pub mod checked;
 pub mod code;
 pub mod columns;
 pub mod definitions;
+pub mod edits;
 pub mod example;
 pub mod exceptions;
 pub mod links;

@@ -4,7 +4,7 @@ use std::path::Path;
 use std::process::ExitCode;
 
 use pages::tree::Tree;
-use pages::{architecture, example, exceptions, links, promises};
+use pages::{checked, example};
 
 const HELP: &str = "\
 pages ROOT                  the names and the links of the pages
@@ -18,7 +18,7 @@ fn main() -> ExitCode {
             eprint!("{HELP}");
             return ExitCode::from(2);
         }
-        [root] => checked(&Tree::new(Path::new(root))),
+        [root] => checked::faults(&Tree::new(Path::new(root))),
         [root, programs @ ..] => compared(&Tree::new(Path::new(root)), programs),
     };
     for fault in &faults {
@@ -29,17 +29,6 @@ fn main() -> ExitCode {
     } else {
         ExitCode::FAILURE
     }
-}
-
-fn checked(tree: &Tree) -> Vec<String> {
-    let text = |page: &str| tree.read(page).unwrap_or_default();
-    let mut faults = promises::faults(tree, &text(promises::PAGE));
-    faults.extend(architecture::faults(tree, &text(architecture::PAGE)));
-    faults.extend(exceptions::faults(tree, &text(exceptions::PAGE)));
-    for page in tree.pages() {
-        faults.extend(links::faults(tree, &page, &text(&page)));
-    }
-    faults
 }
 
 fn compared(tree: &Tree, programs: &[String]) -> Vec<String> {

@@ -1,9 +1,11 @@
-//! What a name of the promises stands for, by the column that it is in.
+//! What a name of a page stands for, by the column that it is in.
 
 #[derive(Clone, Copy)]
 pub enum Column {
     /// Words and links alone.
     Words,
+    /// Words, and code that is not looked for.
+    Any,
     Stated,
     MustFail,
     Run,
@@ -30,7 +32,7 @@ pub enum Name<'a> {
 
 pub fn parse(column: Column, text: &str) -> Option<Name<'_>> {
     match column {
-        Column::Words => None,
+        Column::Words | Column::Any => None,
         Column::Stated => stated(text),
         Column::MustFail => {
             let (owner, name) = text.split_once('/')?;

@@ -42,3 +42,23 @@ pub fn quoted(cell: &str) -> Option<Vec<&str>> {
     let closed = parts.len() % 2 == 1;
     closed.then(|| parts.into_iter().skip(1).step_by(2).collect())
 }
+
+/// What stands between backticks where a cell is that alone.
+pub fn only_quoted(cell: &str) -> Option<&str> {
+    let inner = cell.strip_prefix('`')?.strip_suffix('`')?;
+    (!inner.is_empty() && !inner.contains('`')).then_some(inner)
+}
+
+/// How many words a cell has; what stands between two backticks is one.
+pub fn word_count(cell: &str) -> usize {
+    let plain = |part: &str| {
+        let words = part.split_whitespace();
+        words
+            .filter(|word| word.contains(char::is_alphanumeric))
+            .count()
+    };
+    let parts = cell.split('`').enumerate();
+    parts
+        .map(|(at, part)| if at % 2 == 1 { 1 } else { plain(part) })
+        .sum()
+}
