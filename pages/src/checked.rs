@@ -1,15 +1,16 @@
 //! Every page held to the tree, as the gate asks for it.
 
 use crate::tree::Tree;
-use crate::{architecture, edits, exceptions, links, promises};
+use crate::{architecture, edits, exceptions, held, links, promises};
 
 type Check = fn(&Tree, &str) -> Vec<String>;
 
 /// The pages whose tables are read, each with what is asked of it.
-const CHECKS: [(&str, Check); 4] = [
+const CHECKS: [(&str, Check); 5] = [
     (promises::PAGE, promises::faults),
     (architecture::PAGE, architecture::faults),
     (exceptions::PAGE, exceptions::faults),
+    (held::PAGE, held::faults),
     (edits::PAGE, edits::faults),
 ];
 

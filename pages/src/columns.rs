@@ -1,6 +1,6 @@
 //! Names in the tables of a page, column by column, held to the tree.
 
-use crate::names::{parse, Column};
+use crate::names::{self, parse, Column};
 use crate::table::{quoted, Row};
 use crate::tree::Tree;
 
@@ -31,10 +31,11 @@ fn cell_faults(tree: &Tree, column: Column, cell: &str) -> Vec<String> {
     let Some(names) = quoted(cell) else {
         return vec!["a backtick that is not closed".to_string()];
     };
+    if names.is_empty() && matches!(column, Column::Definition) {
+        return vec!["no name in backticks".to_string()];
+    }
     let any = matches!(column, Column::Any);
     let stands = |name: &str| any || parse(column, name).is_some_and(|name| tree.has(&name));
     let missing = names.into_iter().filter(|name| !stands(name));
-    missing
-        .map(|name| format!("`{name}` is not in the tree"))
-        .collect()
+    missing.map(names::missing).collect()
 }

@@ -16,6 +16,20 @@ fn declared(line: &str) -> Option<&str> {
     (typed || signed).then_some(name)
 }
 
+/// The name that a line makes public; modules are no declarations.
+fn made_public(line: &str) -> Option<&str> {
+    let words: Vec<&str> = line.split_whitespace().collect();
+    let at = words.iter().position(|word| !WORDS.contains(word))?;
+    let public = words[..at].contains(&"pub") && !["mod", "use"].contains(&words[at]);
+    public.then(|| words[at])
+}
+
+/// The names of a file's public declarations; not of fields and cases.
+pub fn public(text: &str) -> Vec<&str> {
+    let lines = text.lines().filter(|line| top(line));
+    lines.filter_map(made_public).collect()
+}
+
 fn top(line: &str) -> bool {
     !line.is_empty() && !line.starts_with([' ', '-'])
 }

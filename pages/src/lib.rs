@@ -9,6 +9,7 @@ pub mod definitions;
 pub mod edits;
 pub mod example;
 pub mod exceptions;
+pub mod held;
 pub mod links;
 pub mod names;
 pub mod promises;

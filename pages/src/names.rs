@@ -9,6 +9,11 @@ pub enum Column {
     Stated,
     MustFail,
     Run,
+    /// Declarations of the model's specs, one at least.
+    Definition,
+    /// Promises of the model, and rows of its cases.
+    Promise,
+    ModelEdit,
 }
 
 pub enum Name<'a> {
@@ -18,6 +23,8 @@ pub enum Name<'a> {
     Code { owner: &'a str, path: Vec<&'a str> },
     /// `crate/name`
     Edit(&'a str, &'a str),
+    /// `held/name`
+    Held(&'a str),
     /// `row WORDS`
     Row(&'a str),
     /// `drill NAME`
@@ -39,6 +46,31 @@ pub fn parse(column: Column, text: &str) -> Option<Name<'_>> {
             Some(Name::Edit(owner, name))
         }
         Column::Run => run(text),
+        Column::Definition if text.contains(['/', ':']) => None,
+        Column::Definition => stated(text),
+        Column::Promise => promise(text),
+        Column::ModelEdit => model_edit(text),
+    }
+}
+
+/// What is told of a name that is not there.
+pub fn missing(name: &str) -> String {
+    format!("`{name}` is not in the tree")
+}
+
+fn promise(text: &str) -> Option<Name<'_>> {
+    match text.strip_prefix("row ") {
+        Some(words) => Some(Name::Row(words)),
+        None if text.starts_with("Promises.") => parse(Column::Definition, text),
+        None => None,
+    }
+}
+
+fn model_edit(text: &str) -> Option<Name<'_>> {
+    match text.split_once('/')? {
+        ("model", name) => Some(Name::Edit("model", name)),
+        ("held", name) => Some(Name::Held(name)),
+        _ => None,
     }
 }
 

@@ -36,6 +36,10 @@ impl Tree {
                 let file = format!("crates/{owner}/must-fail/{name}.edit");
                 self.root.join(file).is_file()
             }
+            Name::Held(name) => {
+                let file = format!("crates/model/held/{name}.edit");
+                self.root.join(file).is_file()
+            }
             Name::Row(words) => self.has_row(words),
             Name::Drill(name) => self.has_drill(name),
             Name::Calls(part) => {
@@ -115,13 +119,40 @@ impl Tree {
     pub fn edits(&self) -> Vec<String> {
         let mut edits = Vec::new();
         for owner in entries(&self.root.join("crates")) {
-            for file in entries(&self.root.join("crates").join(&owner).join("must-fail")) {
-                if let Some(name) = file.strip_suffix(".edit") {
-                    edits.push(format!("{owner}/{name}"));
-                }
-            }
+            let names = self.named(&format!("crates/{owner}/must-fail"), ".edit");
+            edits.extend(names.iter().map(|name| format!("{owner}/{name}")));
         }
         edits
+    }
+
+    /// Every edit of the model, as `model/name`, or `held/name`.
+    pub fn model_edits(&self) -> Vec<String> {
+        let refused = self.named("crates/model/must-fail", ".edit");
+        let held = self.named("crates/model/held", ".edit");
+        let refused = refused.iter().map(|name| format!("model/{name}"));
+        let held = held.iter().map(|name| format!("held/{name}"));
+        refused.chain(held).collect()
+    }
+
+    /// Every public declaration of the model's specs, as `File.name`; Lib.antt
+    /// has none.
+    pub fn definitions(&self) -> Vec<String> {
+        let specs = "crates/model/specs";
+        let mut found = Vec::new();
+        for file in self.named(specs, ".antt") {
+            let text = self.read(&format!("{specs}/{file}.antt"));
+            let text = text.filter(|_| file != "Lib").unwrap_or_default();
+            let names = definitions::public(&text).into_iter();
+            found.extend(names.map(|name| format!("{file}.{name}")));
+        }
+        found
+    }
+
+    /// The files of a folder that end so, by what stands before that.
+    fn named(&self, folder: &str, end: &str) -> Vec<String> {
+        let files = entries(&self.root.join(folder));
+        let names = files.iter().filter_map(|file| file.strip_suffix(end));
+        names.map(str::to_string).collect()
     }
 
     /// The text of every file of code, with its crate.

@@ -23,77 +23,71 @@ const PAGE: &str = "\
 ";
 
 /// What is told of a page in the small tree.
-fn faults(name: &str, page: &str) -> Vec<String> {
-    edits::faults(&Made::new(name, &FILES).tree, page)
+fn faults(page: &str) -> Vec<String> {
+    edits::faults(&Made::new(&FILES).tree, page)
+}
+
+/// Asserts what is told where one text of the page is another.
+fn told(right: &str, wrong: &str, expected: &[&str]) {
+    assert!(PAGE.contains(right), "{right}");
+    assert_eq!(faults(&PAGE.replace(right, wrong)), expected);
 }
 
 #[test]
 fn a_right_page_has_no_fault() {
-    assert_eq!(faults("edits-right", PAGE), Vec::<String>::new());
+    assert_eq!(faults(PAGE), Vec::<String>::new());
 }
 
 #[test]
 fn no_page_is_told() {
-    let made = Made::new("edits-none", &FILES);
-    let told = checked::faults(&made.tree);
-    assert!(told.contains(&"docs/EDITS.md: no page".to_string()));
+    let faults = checked::faults(&Made::new(&FILES).tree);
+    assert!(faults.contains(&"docs/EDITS.md: no page".to_string()));
 }
 
 #[test]
 fn an_edit_that_is_not_there_is_told() {
-    let page = PAGE.replace("`two/late`", "`one/late`");
-    let told = [
+    let expected = [
         "docs/EDITS.md:8: `one/late` is not in the tree",
         "docs/EDITS.md: the edit `two/late` is in no row",
     ];
-    assert_eq!(faults("edits-wrong", &page), told);
+    told("`two/late`", "`one/late`", &expected);
 }
 
 #[test]
 fn an_edit_in_no_row_is_told() {
-    let page = PAGE.replace("| `two/early` | stops | the sum |\n", "");
-    let told = ["docs/EDITS.md: the edit `two/early` is in no row"];
-    assert_eq!(faults("edits-left-out", &page), told);
+    let expected = ["docs/EDITS.md: the edit `two/early` is in no row"];
+    told("| `two/early` | stops | the sum |\n", "", &expected);
 }
 
 #[test]
 fn an_edit_with_two_rows_is_told() {
     let row = "| `two/late` | goes on | the end |\n";
-    let told = ["docs/EDITS.md:9: the edit `two/late` has a row already"];
-    assert_eq!(faults("edits-twice", &format!("{PAGE}{row}")), told);
+    let expected = ["docs/EDITS.md:9: the edit `two/late` has a row already"];
+    assert_eq!(faults(&format!("{PAGE}{row}")), expected);
 }
 
 #[test]
 fn a_row_has_one_edit() {
-    let both = PAGE.replace("`two/early`", "`two/early`, `two/late`");
-    let bare = PAGE.replace("`two/early`", "two/early");
-    for (name, page) in [("edits-both", both), ("edits-bare", bare)] {
-        let told = [
-            "docs/EDITS.md:4: not one edit in backticks",
-            "docs/EDITS.md: the edit `two/early` is in no row",
-        ];
-        assert_eq!(faults(name, &page), told);
-    }
+    let expected = [
+        "docs/EDITS.md:4: not one edit in backticks",
+        "docs/EDITS.md: the edit `two/early` is in no row",
+    ];
+    told("`two/early`", "`two/early`, `two/late`", &expected);
+    told("`two/early`", "two/early", &expected);
 }
 
 #[test]
 fn an_empty_cell_is_told() {
-    for (name, full) in [("edits-does", "| stops |"), ("edits-fails", "| the sum |")] {
-        let told = ["docs/EDITS.md:4: an empty cell"];
-        assert_eq!(faults(name, &PAGE.replace(full, "| |")), told);
+    for full in ["| stops |", "| the sum |"] {
+        told(full, "| |", &["docs/EDITS.md:4: an empty cell"]);
     }
-    let page = PAGE.replace("| the sum |", "|");
-    let told = ["docs/EDITS.md:4: 2 cells"];
-    assert_eq!(faults("edits-cells", &page), told);
+    told("| the sum |", "|", &["docs/EDITS.md:4: 2 cells"]);
 }
 
 #[test]
 fn a_ninth_word_is_told() {
-    for (name, last) in [
-        ("edits-word", "five six"),
-        ("edits-code", "five: `six seven`"),
-    ] {
-        let told = ["docs/EDITS.md:8: 9 words, and 8 are the most"];
-        assert_eq!(faults(name, &PAGE.replace("five", last)), told);
+    for last in ["five six", "five: `six seven`"] {
+        let expected = ["docs/EDITS.md:8: 9 words, and 8 are the most"];
+        told("five", last, &expected);
     }
 }

@@ -71,6 +71,17 @@ fn a_name_is_taken_whole() {
 }
 
 #[test]
+fn every_public_declaration_can_be_named() {
+    let definitions = tree().definitions();
+    for name in ["State.end", "State.Net", "Formed.sized", "Events.Event"] {
+        assert!(definitions.iter().any(|found| found == name), "{name}");
+    }
+    for name in &definitions {
+        assert!(has(Column::Definition, name), "{name}");
+    }
+}
+
+#[test]
 fn a_wrong_name_is_told_with_its_line() {
     let page = page();
     let line = 1 + page

@@ -1,8 +1,12 @@
 //! A small tree made up for a test, and gone after it.
 
 use std::fs;
+use std::sync::atomic::{AtomicUsize, Ordering};
 
 use pages::tree::Tree;
+
+/// How many trees this run of tests has made.
+static COUNT: AtomicUsize = AtomicUsize::new(0);
 
 pub struct Made {
     pub tree: Tree,
@@ -10,8 +14,10 @@ pub struct Made {
 
 impl Made {
     /// A tree of these files, each with its text.
-    pub fn new(name: &str, files: &[(&str, &str)]) -> Made {
-        let root = std::env::temp_dir().join(format!("pages-{}-{name}", std::process::id()));
+    pub fn new(files: &[(&str, &str)]) -> Made {
+        let number = COUNT.fetch_add(1, Ordering::Relaxed);
+        let name = format!("pages-{}-tree-{number}", std::process::id());
+        let root = std::env::temp_dir().join(name);
         for (path, text) in files {
             let file = root.join(path);
             fs::create_dir_all(file.parent().expect("a folder")).expect("a folder");
