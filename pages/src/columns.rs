@@ -31,7 +31,8 @@ fn cell_faults(tree: &Tree, column: Column, cell: &str) -> Vec<String> {
     let Some(names) = quoted(cell) else {
         return vec!["a backtick that is not closed".to_string()];
     };
-    if names.is_empty() && matches!(column, Column::Definition) {
+    let needed = matches!(column, Column::Definition | Column::Function);
+    if needed && names.is_empty() {
         return vec!["no name in backticks".to_string()];
     }
     let any = matches!(column, Column::Any);

@@ -14,6 +14,8 @@ pub enum Column {
     /// Promises of the model, and rows of its cases.
     Promise,
     ModelEdit,
+    /// Public functions of the code, one at least.
+    Function,
 }
 
 pub enum Name<'a> {
@@ -21,6 +23,8 @@ pub enum Name<'a> {
     Declared { file: String, path: Vec<&'a str> },
     /// `crate::module::name`
     Code { owner: &'a str, path: Vec<&'a str> },
+    /// `crate::name`, of any file of the crate
+    Function { owner: &'a str, path: Vec<&'a str> },
     /// `crate/name`
     Edit(&'a str, &'a str),
     /// `held/name`
@@ -50,6 +54,11 @@ pub fn parse(column: Column, text: &str) -> Option<Name<'_>> {
         Column::Definition => stated(text),
         Column::Promise => promise(text),
         Column::ModelEdit => model_edit(text),
+        Column::Function => {
+            let (owner, path) = text.split_once("::")?;
+            let path = path.split("::").collect();
+            Some(Name::Function { owner, path })
+        }
     }
 }
 

@@ -5,6 +5,11 @@ pub struct Row {
     pub cells: Vec<String>,
 }
 
+pub struct Table {
+    pub heading: Vec<String>,
+    pub rows: Vec<Row>,
+}
+
 fn cells(line: &str) -> Vec<String> {
     let inner = line.trim().trim_start_matches('|').trim_end_matches('|');
     inner
@@ -13,27 +18,39 @@ fn cells(line: &str) -> Vec<String> {
         .collect()
 }
 
-/// The rows of each table whose first column has this heading; other tables
-/// explain the page and name nothing.
-pub fn rows(page: &str, heading: &str) -> Vec<Row> {
-    let mut rows = Vec::new();
-    let mut taken = None;
+/// The tables whose first column has this heading; others explain the page
+/// and name nothing.
+pub fn tables(page: &str, heading: &str) -> Vec<Table> {
+    let mut tables: Vec<Table> = Vec::new();
+    let mut within = false;
     for (at, line) in page.lines().enumerate() {
         if !line.starts_with('|') {
-            taken = None;
+            within = false;
             continue;
         }
         let cells = cells(line);
-        match taken {
-            None => taken = Some(cells[0] == heading),
-            Some(true) if !line.starts_with("|--") => rows.push(Row {
-                line: at + 1,
+        let line_number = at + 1;
+        match tables.last_mut() {
+            Some(table) if within && !line.starts_with("|--") => table.rows.push(Row {
+                line: line_number,
                 cells,
             }),
-            Some(_) => {}
+            Some(_) if within => {}
+            _ => tables.push(Table {
+                heading: cells,
+                rows: Vec::new(),
+            }),
         }
+        within = true;
     }
-    rows
+    tables.retain(|table| table.heading[0] == heading);
+    tables
+}
+
+/// The rows of each table whose first column has this heading.
+pub fn rows(page: &str, heading: &str) -> Vec<Row> {
+    let tables = tables(page, heading).into_iter();
+    tables.flat_map(|table| table.rows).collect()
 }
 
 /// What stands between backticks; none where one is not closed.

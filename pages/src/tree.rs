@@ -32,6 +32,7 @@ impl Tree {
                 .read(file)
                 .is_some_and(|text| definitions::declares(&text, path)),
             Name::Code { owner, path } => self.has_code(owner, path),
+            Name::Function { owner, path } => self.has_function(owner, path),
             Name::Edit(owner, name) => {
                 let file = format!("crates/{owner}/must-fail/{name}.edit");
                 self.root.join(file).is_file()
@@ -80,6 +81,14 @@ impl Tree {
             },
             _ => false,
         }
+    }
+
+    /// A public function of a crate; where its module or its type is told, of that.
+    fn has_function(&self, owner: &str, path: &[&str]) -> bool {
+        let sources = self.sources_of(owner);
+        let mut contracts = sources.iter().flat_map(|text| code::contracts(text));
+        let public = contracts.any(|contract| path.last() == Some(&contract.name));
+        public && (path.len() == 1 || self.has_code(owner, path))
     }
 
     /// Rows of the tables of cases stand under comments that say what they are.
@@ -159,13 +168,19 @@ impl Tree {
     pub fn sources(&self) -> Vec<(String, String)> {
         let mut sources = Vec::new();
         for owner in self.crates() {
-            let src = format!("crates/{owner}/src");
-            for file in entries(&self.root.join(&src)) {
-                let text = self.read(&format!("{src}/{file}"));
-                sources.extend(text.map(|text| (owner.clone(), text)));
-            }
+            let texts = self.sources_of(&owner).into_iter();
+            sources.extend(texts.map(|text| (owner.clone(), text)));
         }
         sources
+    }
+
+    /// The text of every file of a crate's code.
+    fn sources_of(&self, owner: &str) -> Vec<String> {
+        let src = format!("crates/{owner}/src");
+        let files = entries(&self.root.join(&src)).into_iter();
+        files
+            .filter_map(|file| self.read(&format!("{src}/{file}")))
+            .collect()
     }
 
     /// The crates of crates.txt, which names each with those that it uses.

@@ -1,0 +1,98 @@
+//! Seeded faults of the tables of functions of docs/EXCEPTIONS.md, in a small
+//! tree.
+
+mod made;
+
+use made::Made;
+use pages::exceptions;
+
+const LIB: &str = "\
+pub struct Net {
+    links: u8,
+}
+
+impl Net {
+    pub fn sent(self) -> u8
+        ensures { r }
+    {
+        0
+    }
+}
+
+fn inner() -> u8 {
+    0
+}
+";
+
+const WALK: &str = "\
+pub fn way(x: u8) -> u8
+    requires { x < 9 }
+    ensures { r }
+{
+    x
+}
+";
+
+const FILES: [(&str, &str); 3] = [
+    ("crates.txt", "one:\n"),
+    ("crates/one/src/lib.rt", LIB),
+    ("crates/one/src/walk.rt", WALK),
+];
+
+const PAGE: &str = "\
+| Function | What it requires |
+|---|---|
+| `one::way` | a small number |
+
+Words.
+
+| Function | What it leaves open | Why |
+|---|---|---|
+| `one::sent`, `one::Net::sent` | entries past `links` | they are no part of it |
+| `one::way` | nothing else | so |
+";
+
+/// Asserts what is told where one text of the page is another.
+fn told(right: &str, wrong: &str, expected: &[&str]) {
+    assert!(PAGE.contains(right), "{right}");
+    let made = Made::new(&FILES);
+    let page = PAGE.replacen(right, wrong, 1);
+    assert_eq!(exceptions::faults(&made.tree, &page), expected);
+}
+
+#[test]
+fn a_right_page_has_no_fault() {
+    told("Words.", "Other words.", &[]);
+}
+
+#[test]
+fn the_tables_are_told_apart() {
+    let requires = ["docs/EXCEPTIONS.md: `one::way` requires something"];
+    told("| `one::way` | a small number |\n", "", &requires);
+    let nothing = ["docs/EXCEPTIONS.md: `one::sent` requires nothing"];
+    told("| `one::way` |", "| `one::way`, `one::sent` |", &nothing);
+}
+
+#[test]
+fn a_function_that_is_not_there_is_told() {
+    for wrong in [
+        "one::inner",
+        "one::Net",
+        "one::send",
+        "two::sent",
+        "one::Way::sent",
+        "sent",
+    ] {
+        let fault = format!("docs/EXCEPTIONS.md:9: `{wrong}` is not in the tree");
+        told("`one::sent`", &format!("`{wrong}`"), &[&fault]);
+    }
+}
+
+#[test]
+fn an_empty_cell_is_told() {
+    for full in ["| nothing else |", "| so |"] {
+        told(full, "| |", &["docs/EXCEPTIONS.md:10: an empty cell"]);
+    }
+    let bare = ["docs/EXCEPTIONS.md:10: no name in backticks"];
+    told("`one::way` | nothing else", "way | nothing else", &bare);
+}
