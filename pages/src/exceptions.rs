@@ -24,6 +24,7 @@ pub fn faults(tree: &Tree, text: &str) -> Vec<String> {
     faults
 }
 
+/// The rows of tables, in order.
 fn rows_of(tables: Vec<Table>) -> Vec<Row> {
     tables.into_iter().flat_map(|table| table.rows).collect()
 }

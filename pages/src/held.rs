@@ -28,8 +28,7 @@ pub fn faults(tree: &Tree, text: &str) -> Vec<String> {
     faults
 }
 
-/// What is wrong with a cell of edits: each is in the tree, or there is a
-/// reason why there is none.
+/// What is wrong with a cell of edits of the tree, or of a reason why there is none.
 fn edit_faults(tree: &Tree, cell: &str) -> Vec<String> {
     let reason = reason(cell);
     let names = quoted(cell).unwrap_or_default();

@@ -67,6 +67,7 @@ pub fn missing(name: &str) -> String {
     format!("`{name}` is not in the tree")
 }
 
+/// A row of the cases, or a promise or a field of one.
 fn promise(text: &str) -> Option<Name<'_>> {
     match text.strip_prefix("row ") {
         Some(words) => Some(Name::Row(words)),
@@ -75,6 +76,7 @@ fn promise(text: &str) -> Option<Name<'_>> {
     }
 }
 
+/// An edit that must fail, or one that is held.
 fn model_edit(text: &str) -> Option<Name<'_>> {
     match text.split_once('/')? {
         ("model", name) => Some(Name::Edit("model", name)),

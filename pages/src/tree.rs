@@ -143,8 +143,7 @@ impl Tree {
         refused.chain(held).collect()
     }
 
-    /// Every public declaration of the model's specs, as `File.name`; Lib.antt
-    /// has none.
+    /// Every public declaration of the model's specs, as `File.name`; Lib.antt has none.
     pub fn definitions(&self) -> Vec<String> {
         let specs = "crates/model/specs";
         let mut found = Vec::new();

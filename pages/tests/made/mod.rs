@@ -8,6 +8,7 @@ use pages::tree::Tree;
 /// How many trees this run of tests has made.
 static COUNT: AtomicUsize = AtomicUsize::new(0);
 
+/// The tree, in a folder of its own.
 pub struct Made {
     pub tree: Tree,
 }
