@@ -3,6 +3,7 @@ use Prim.Native.Nat.{ℕ}
 use Prim.Native.String.{String}
 use mathlib.Core.Bool.{Bool, true, false}
 use mathlib.Core.List.{List, [], _∷_, _++_}
+use mathlib.Core.Option.{none, some}
 use lib.ListN.{replicate}
 use Rattle.model.specs.declared.Handled.the-variants.{Packet, Nothing}
 use Rattle.model.specs.declared.Went.the-variants.{Lane, Delivered, Lost, Stranded, Nowhere}
@@ -12,7 +13,7 @@ use Rattle.model.specs.Events.{send, deliver, lose, fail}
 use Rattle.model.specs.Number.{had, refused}
 use Rattle.model.specs.File.{Header, Drill}
 use Rattle.model.specs.Text.{ascii}
-use Rattle.model.specs.Rows.{nodes-are, destination-is, links-are, node-is, turns-are, up-is, out-is, mark-is, flight-is, counts-are, unchanged, unreversed, gone, turned, opens, last, all-of, on-made, formed, judges, writes, reads, puts-event, puts-header, writes-drill, pieces, file, runs, prints, limit, answers, gave, leaves, bytes, number, told, wrote, is, Case, row}
+use Rattle.model.specs.Rows.{nodes-are, destination-is, links-are, node-is, turns-are, up-is, out-is, mark-is, flight-is, counts-are, unchanged, unreversed, gone, turned, opens, last, all-of, on-made, formed, judges, writes, reads, reads-at, event-at, puts-event, puts-header, writes-drill, pieces, file, runs, prints, limit, answers, gave, leaves, bytes, number, got, told, wrote, is, Case, row}
 
 abbrev pub net : ℕ → ℕ → List ℕ → Header
 net nodes destination list = record { nodes = nodes; destination = destination; list = list }
@@ -190,6 +191,13 @@ others =
     -- three bytes where two do, a third group of 0
     ∷ row (reads (0x80 ∷ 0x80 ∷ 0x00 ∷ [])) (number (refused 11 0))
     ∷ row (reads (0x80 ∷ 0x80 ∷ 0x01 ∷ [])) (number (had 16384 3))
+    -- at a position; one past the end counts as the end
+    ∷ row (reads-at (9 ∷ 0x81 ∷ 0x01 ∷ []) 1) (number (had 129 3))
+    ∷ row (reads-at (9 ∷ 0x81 ∷ []) 1) (number (refused 11 1))
+    ∷ row (reads-at (9 ∷ []) 5) (number (refused 11 1))
+    ∷ row (event-at (9 ∷ 3 ∷ 7 ∷ []) 1) (got (had (some (lose 7)) 3))
+    ∷ row (event-at (9 ∷ 3 ∷ []) 1) (got (refused 11 2))
+    ∷ row (event-at (9 ∷ []) 5) (got (had none 1))
     -- the destination delivers at once, without a link too
     ∷ row (last (net 1 0 []) [] (send 0)) (gave 0 (Packet 0) Delivered (0 ∷ []) (count 1 1 1 0 0))
     -- a bounce goes back on its own link, though a lower one is Out
@@ -294,6 +302,9 @@ others =
     (gave 0 (Packet 0) (Lane 0) (0 ∷ 0 ∷ []) (count 1_000_000 1 0 0 0))
     ∷ row (on-made one-link (send 1 ∷ []) (flight-is (packet 0 0 true ∷ []) ∷ []) (deliver 0))
     (gave 10 Nothing Nowhere (0 ∷ 0 ∷ []) (count 1 1 0 0 0))
+    -- a failure with packets on both lanes
+    ∷ row (on-made one-link [] (flight-is (packet 0 0 false ∷ packet 1 1 false ∷ []) ∷ counts-are (count 2 2 0 0 0) ∷ []) (fail 0))
+    (gave 0 Nothing Nowhere (0 ∷ 0 ∷ []) (count 3 2 0 2 0))
     -- a turn: no arrow leads out, and one is reversed; the news counts first; of no other node
     ∷ row (judges away-from [] (send 1) unchanged 1) (told true)
     ∷ row (judges away-from [] (send 1) unchanged 0) (told false)

@@ -3,6 +3,7 @@ use Prim.Native.Nat.{ℕ}
 use mathlib.Core.Path.{_≡_}
 use mathlib.Core.Bool.{Bool, cond}
 use mathlib.Core.List.{List, [], _∷_, map}
+use mathlib.Core.Option.{Option}
 use lib.Dec.{eqb}
 use Rattle.model.specs.declared.Handled.{Handled}
 use Rattle.model.specs.declared.Went.{Went}
@@ -16,7 +17,7 @@ use Rattle.model.specs.Opening.{Opening}
 use Rattle.model.specs.History.{after}
 use Rattle.model.specs.Turns.{about, turnsIn}
 use Rattle.model.specs.Number.{numberBytes, Read, had, refused, readNumber}
-use Rattle.model.specs.File.{Header, opening, Drill, read}
+use Rattle.model.specs.File.{Header, opening, readEvent, Drill, read}
 use Rattle.model.specs.Writing.{write, Written, writeHeader, writeEvent}
 use Rattle.model.specs.Writable.{writePieces}
 use Rattle.model.specs.Text.{drillOutput}
@@ -130,9 +131,11 @@ pub data Given : Type 0 where
   on-made : Header → List Event → List Change → Event → Given
   formed : Header → List Event → List Change → Given
   judges : Header → List Event → Event → (State → Outcome → Outcome) → ℕ → Given
-  -- a number to write; bytes to read as a number; an event and a header to write into a part
+  -- a number to write; bytes to read as a number, and at a position; an event at a position; an event and a header to write into a part
   writes : ℕ → Given
   reads : List ℕ → Given
+  reads-at : List ℕ → ℕ → Given
+  event-at : List ℕ → ℕ → Given
   puts-event : ℕ → ℕ → List ℕ → Given
   puts-header : Header → List ℕ → Given
   -- a drill to write, whole and piece by piece into a part
@@ -153,6 +156,7 @@ pub data Gives : Type 0 where
   leaves : Listed → Gives
   bytes : List ℕ → Gives
   number : Read ℕ → Gives
+  got : Read (Option Event) → Gives
   told : Bool → Gives
   -- the answer, the place, how many bytes were written, and what the part then holds
   wrote : ℕ → ℕ → ℕ → List ℕ → Gives
@@ -188,6 +192,8 @@ given (formed h es cs) = told (wellFormed (made (after (opening h .state) es) cs
 given (judges h es e change v) = judged (after (opening h .state) es) e change v
 given (writes n) = bytes (numberBytes n)
 given (reads bs) = number (readNumber bs 0)
+given (reads-at bs at) = number (readNumber bs at)
+given (event-at bs at) = got (readEvent bs at)
 given (puts-event kind a part) = fromWritten (writeEvent kind a part)
 given (puts-header h part) = fromWritten (writeHeader h part)
 given (writes-drill d) = bytes (write d)
