@@ -29,7 +29,7 @@ use Rattle.model.specs.Cases.{count, cases, others}
 use Rattle.model.proofs.Full.{packets, sent, from-full}
 
 -- the rows on each side of those
-sides : (Hold (take 13 cases) × Hold (drop 15 cases)) × (Hold (take 33 others) × Hold (drop 34 others))
+sides : (Hold (take 13 cases) × Hold (drop 15 cases)) × (Hold (take 34 others) × Hold (drop 35 others))
 unfolding any all first tab opp whole xor hasLive hasOut hasMark turn update door pass sized limitsHold linkFormed endFormed packetFormed packetsFormed turnsFormed summed wellFormed accepting counted onward sendTo onLane less taken offLane news arrives deliverOn loseOn off cut failOf event opened setsOut holdsClosedWalk firstBadLink openFrom after groups join numberIn readNumber readNumbers readHeader ofKind readEvent eventsFrom readEvents read ascii digitsIn spaced line eventLines drillText drillOutput about turnsIn numbersBytes eventsBytes write store writeHeader writeEvent writeEvents writePieces changed made listed given
 sides = ((refl, refl), (refl, refl))
 

@@ -179,6 +179,7 @@ others =
     -- a header: its numbers (11), then 2, then the links (11), then 3
     ∷ row (file (1 ∷ 0 ∷ [])) (answers 11 2)
     ∷ row (file (1 ∷ 0 ∷ 1 ∷ [])) (answers 11 3)
+    ∷ row (file (65 ∷ 0 ∷ [])) (answers 11 2)
     ∷ row (file (2 ∷ 2 ∷ 1 ∷ [])) (answers 2 0)
     ∷ row (file (2 ∷ 0 ∷ 2 ∷ 1 ∷ 1 ∷ 1 ∷ [])) (answers 11 6)
     ∷ row (file (2 ∷ 0 ∷ 1 ∷ 1 ∷ 1 ∷ 9 ∷ [])) (answers 3 0)
