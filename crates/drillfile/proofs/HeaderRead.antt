@@ -5,21 +5,20 @@ use native.Mathlib.Decide.{decLe}
 use mathlib.Core.Path.{_≡_, refl, sym, ap, _∙_}
 use mathlib.Core.Bool.{true, false}
 use mathlib.Core.List.{List, []}
-use lib.ListN.{length, take, drop-of-length-le}
+use lib.ListN.{length, drop-of-length-le}
 use borrow.Author.Tests.{eq-eqb, ne-eqb}
 use Rattle.model.specs.Answers as answers
 use Rattle.model.specs.Formed.{sized}
 use Rattle.model.specs.Opening.{openFrom}
 use Rattle.model.specs.Number.{Read, had, refused, readNumber}
-use Rattle.model.specs.File.{Header, readNumbers, readHeader}
+use Rattle.model.specs.File.{Header, accepted, readNumbers, readHeader}
 use Rattle.model.proofs.Opening.{tested}
 use Rattle.network.specs.declared.opening.Opened.{Opened}
 use Rattle.network.specs.Opening.{OpenPost}
 use Rattle.network.proofs.Filled.{lone-view}
 use Rattle.entries.specs.declared.answers.Cursor.{Cursor}
 use Rattle.drillfile.specs.declared.answers.Headed.{Headed}
-use Rattle.drillfile.specs.declared.header.Listed.{Listed}
-use Rattle.drillfile.specs.Headers.{headerOf, HeaderPost, refusedHeader, fromLinks, listed}
+use Rattle.drillfile.specs.Headers.{headerOf, HeaderPost, refusedHeader, fromLinks}
 
 -- ---- refusals
 -- an opening that is refused has the record that a refused header gives
@@ -40,51 +39,50 @@ refuses read answer place from r e f =
     (record { outcome = λ i. record { state = lone-view i; answer = answer; place = place; next = from .at }; lone = λ n. refl })
 
 -- ---- the links
-module _ (nodes destination links : ℕ) (file : List ℕ) (at : ℕ) (from : Cursor) (r : Listed)
-    (e : listed (2 * links) r ≡ readNumbers (2 * links) file at) where
-  abbrev list : List ℕ
-  list = take (2 * links) (r .list)
+-- what their list opens
+module _ (nodes destination : ℕ) (list : List ℕ) (next : ℕ) (from : Cursor) (o : Opened) (p : OpenPost nodes destination list o) where
+  abbrev Opens : Headed → Type 0
+  Opens h = HeaderPost (from .at) (accepted (headerOf nodes destination list) next) h
 
-  abbrev Gives : Headed → Type 0
-  Gives h = HeaderPost (from .at) (fromLinks nodes destination links file at) h
+  answer-is : o .answer ≡ openFrom nodes destination list .answer
+  answer-is = ap (λ x. x .answer) (p .outcome)
 
-  pub list-cut : (h : Headed) → r .whole ≡ false → h ≡ refusedHeader answers.spoilt (r .place) from → Gives h
-  list-cut h w q =
-      let cut : readNumbers (2 * links) file at ≡ refused answers.spoilt (r .place) = sym e ∙ rw w in
-      refuses (fromLinks nodes destination links file at) answers.spoilt (r .place) from h q (rw cut)
+  place-is : o .place ≡ openFrom nodes destination list .place
+  place-is = ap (λ x. x .place) (p .outcome)
 
-  module _ (w : r .whole ≡ true) (o : Opened) (p : OpenPost nodes destination list o) where
-    whole : readNumbers (2 * links) file at ≡ had list (r .place)
-    whole = sym e ∙ rw w
+  pub not-opened : (o .answer ≡ answers.done → ⊥) → Opens (record { network = o .network; answer = o .answer; place = o .place; next = from })
+  not-opened n =
+      refuses (accepted (headerOf nodes destination list) next) (o .answer) (o .place) from
+      (record { network = o .network; answer = o .answer; place = o .place; next = from })
+      (λ i. record { network = p .lone n i; answer = o .answer; place = o .place; next = from })
+      (rw (ne-eqb (openFrom nodes destination list .answer) answers.done (λ z. n (answer-is ∙ z)), answer-is, place-is))
 
-    answer-is : o .answer ≡ openFrom nodes destination list .answer
-    answer-is = ap (λ x. x .answer) (p .outcome)
+  no-place : openFrom nodes destination list .answer ≡ answers.done → openFrom nodes destination list .place ≡ 0
+  unfolding openFrom
+  no-place z = let t = tested nodes destination list false z in rw (t .sizes, t .links, t .walks)
 
-    place-is : o .place ≡ openFrom nodes destination list .place
-    place-is = ap (λ x. x .place) (p .outcome)
+  pub opens-it : o .answer ≡ answers.done
+      → Opens (record { network = o .network; answer = o .answer; place = o .place; next = record { at = next } })
+  opens-it z =
+      let done = sym answer-is ∙ z in
+      let read : accepted (headerOf nodes destination list) next ≡ had (headerOf nodes destination list) next =
+      rw (eq-eqb (openFrom nodes destination list .answer) answers.done done) in
+      record {
+        outcome = (λ i. record { state = p .outcome i .state; answer = z i; place = (place-is ∙ no-place done) i; next = next })
+            ∙ rw read;
+        lone = λ n. absurd (n z);
+      }
 
-    pub not-opened : (o .answer ≡ answers.done → ⊥) → Gives (record { network = o .network; answer = o .answer; place = o .place; next = from })
-    not-opened n =
-        refuses (fromLinks nodes destination links file at) (o .answer) (o .place) from
-        (record { network = o .network; answer = o .answer; place = o .place; next = from })
-        (λ i. record { network = p .lone n i; answer = o .answer; place = o .place; next = from })
-        (rw (whole, ne-eqb (openFrom nodes destination list .answer) answers.done (λ z. n (answer-is ∙ z)), answer-is, place-is))
+-- the list is cut short, or is whole
+module _ (nodes destination links : ℕ) (file : List ℕ) (at place : ℕ) (from : Cursor) (r : Headed) where
+  pub list-cut : readNumbers (2 * links) file at ≡ refused answers.spoilt place → r ≡ refusedHeader answers.spoilt place from
+      → HeaderPost (from .at) (fromLinks nodes destination links file at) r
+  list-cut e q = refuses (fromLinks nodes destination links file at) answers.spoilt place from r q (rw e)
 
-    no-place : openFrom nodes destination list .answer ≡ answers.done → openFrom nodes destination list .place ≡ 0
-    unfolding openFrom
-    no-place z = let t = tested nodes destination list false z in rw (t .sizes, t .links, t .walks)
-
-    pub opens-it : o .answer ≡ answers.done
-        → Gives (record { network = o .network; answer = o .answer; place = o .place; next = record { at = r .place } })
-    opens-it z =
-        let done = sym answer-is ∙ z in
-        let read : fromLinks nodes destination links file at ≡ had (headerOf nodes destination list) (r .place) =
-        rw (whole, eq-eqb (openFrom nodes destination list .answer) answers.done done) in
-        record {
-          outcome = (λ i. record { state = p .outcome i .state; answer = z i; place = (place-is ∙ no-place done) i; next = r .place })
-              ∙ rw read;
-          lone = λ n. absurd (n z);
-        }
+  pub list-whole : (list : List ℕ) → readNumbers (2 * links) file at ≡ had list place
+      → HeaderPost (from .at) (accepted (headerOf nodes destination list) place) r
+      → HeaderPost (from .at) (fromLinks nodes destination links file at) r
+  list-whole list e p = rw e p
 
 -- ---- the three numbers before them
 -- a position past the end counts as the end

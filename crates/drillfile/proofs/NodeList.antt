@@ -1,19 +1,17 @@
 -- The node numbers of a header's links, read one by one into an array. Assumes nothing.
-use Prim.Native.Nat.{ℕ, suc, _+_, _-_, _≤_, _<_}
+use Prim.Native.Nat.{ℕ, suc, _+_, _*_, _-_, _≤_, _<_}
 use native.Mathlib.Nat.{sub-zero}
 use native.Mathlib.Numerals.{add-one}
 use native.Mathlib.Omega.{arith}
 use mathlib.Core.Path.{_≡_, refl, sym, ap, _∙_}
-use mathlib.Core.Bool.{true, false}
 use mathlib.Core.List.{List, [], _∷_, _++_, append-assoc, append-nil}
 use lib.ListN.{length, take, set, length-set}
 use lib.Seq.{take-suc-set}
-use Rattle.model.specs.Limits.{endsMost}
+use Rattle.model.specs.Limits.{linksMost, endsMost}
 use Rattle.model.specs.Answers as answers
 use Rattle.model.specs.Number.{Read, had, refused, readNumber}
 use Rattle.model.specs.File.{andThen, readNumbers}
 use Rattle.model.proofs.Numbers.{number-moves}
-use Rattle.drillfile.specs.Headers.{listed}
 
 -- with those that were had before
 abbrev behind : List ℕ → Read (List ℕ) → Read (List ℕ)
@@ -76,18 +74,39 @@ module _ (file : List ℕ) (at count : ℕ) (list : List ℕ) (place i : ℕ) (s
               ∙ ap (λ (l : List ℕ). behind l (readNumbers (count - (i + 1)) file next)) (sym longer);
         }
 
-    pub cut-off : readNumber file place ≡ refused answers.spoilt place
-        → listed count (record { whole = false; place = place; list = list }) ≡ readNumbers count file at
+    pub cut-off : readNumber file place ≡ refused answers.spoilt place → readNumbers count file at ≡ refused answers.spoilt place
     cut-off e =
-        sym (s .left
+        s .left
         ∙ ap (λ (k : ℕ). behind (take i list) (readNumbers k file place)) fewer
-        ∙ ap (behind (take i list)) (numbers-refused (count - (i + 1)) file place answers.spoilt place e))
+        ∙ ap (behind (take i list)) (numbers-refused (count - (i + 1)) file place answers.spoilt place e)
 
-  pub all-read : count ≤ i → listed count (record { whole = true; place = place; list = list }) ≡ readNumbers count file at
+  pub all-read : count ≤ i → readNumbers count file at ≡ had (take count list) place
   all-read h =
       let none : count - i ≡ 0 = omega arith in
       let same : i ≡ count = omega (arith, s .within) in
-      sym (s .left
+      s .left
       ∙ ap (λ (k : ℕ). behind (take i list) (readNumbers k file place)) none
       ∙ ap (behind (take i list)) (numbers-zero file place)
-      ∙ ap (λ (l : List ℕ). had l place) (append-nil (take i list) ∙ ap (λ (k : ℕ). take k list) same))
+      ∙ ap (λ (l : List ℕ). had l place) (append-nil (take i list) ∙ ap (λ (k : ℕ). take k list) same)
+
+-- the two numbers of a link
+module _ (file : List ℕ) (at links : ℕ) (list : List ℕ) (place l : ℕ) (s : SoFar file at (2 * links) list place (2 * l)) (h : l < links) where
+  pub tail-cut : readNumber file place ≡ refused answers.spoilt place → readNumbers (2 * links) file at ≡ refused answers.spoilt place
+  tail-cut = cut-off file at (2 * links) list place (2 * l) s (omega arith)
+
+  module _ (most : links ≤ linksMost) (tail middle : ℕ) (t : readNumber file place ≡ had tail middle) where
+    half : SoFar file at (2 * links) (set list (2 * l) tail) middle (2 * l + 1)
+    half = one-more file at (2 * links) list place (2 * l) s (omega arith) tail middle (omega arith) t
+
+    pub middle-inside : middle ≤ length file
+    middle-inside = half .inside
+
+    pub head-cut : readNumber file middle ≡ refused answers.spoilt middle → readNumbers (2 * links) file at ≡ refused answers.spoilt middle
+    head-cut = cut-off file at (2 * links) (set list (2 * l) tail) middle (2 * l + 1) half (omega arith)
+
+    pub link-read : (head next : ℕ) → readNumber file middle ≡ had head next
+        → SoFar file at (2 * links) (set (set list (2 * l) tail) (2 * l + 1) head) next (2 * (l + 1))
+    link-read head next e =
+        let whole = one-more file at (2 * links) (set list (2 * l) tail) middle (2 * l + 1) half (omega arith) head next (omega arith) e in
+        let two : 2 * l + 1 + 1 ≡ 2 * (l + 1) = omega arith in
+        rw two at whole

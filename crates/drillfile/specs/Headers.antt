@@ -1,9 +1,7 @@
 -- What the outcomes of headers stand for, in the document's words.
 use Prim.Native.Nat.{ℕ, _*_}
 use mathlib.Core.Path.{_≡_}
-use mathlib.Core.Bool.{cond}
 use mathlib.Core.List.{List, []}
-use lib.ListN.{take}
 use Rattle.model.specs.Answers as answers
 use Rattle.model.specs.State.{State}
 use Rattle.model.specs.Opening.{opened}
@@ -13,7 +11,6 @@ use Rattle.network.specs.View.{view}
 use Rattle.network.specs.Opening.{loneNetwork}
 use Rattle.entries.specs.declared.answers.Cursor.{Cursor}
 use Rattle.drillfile.specs.declared.answers.Headed.{Headed}
-use Rattle.drillfile.specs.declared.header.Listed.{Listed}
 
 abbrev pub headerOf : ℕ → ℕ → List ℕ → Header
 headerOf nodes destination list = record { nodes = nodes; destination = destination; list = list }
@@ -45,7 +42,3 @@ refusedHeader answer place from = record { network = loneNetwork; answer = answe
 abbrev pub fromLinks : ℕ → ℕ → ℕ → List ℕ → ℕ → Read Header
 fromLinks nodes destination links file at =
     andThen (readNumbers (2 * links) file at) λ list next. accepted (headerOf nodes destination list) next
-
--- node numbers in an array, by how many were asked for
-abbrev pub listed : ℕ → Listed → Read (List ℕ)
-listed count r = cond (r .whole) (had (take count (r .list)) (r .place)) (refused answers.spoilt (r .place))

@@ -6,19 +6,12 @@ use entries::DONE;
 use groups::Number;
 use groups::read_number;
 ghost use mathlib.Core.Path.{_≡_};
-ghost use Prim.Native.Nat.{_*_, _≤_, min};
+ghost use Prim.Native.Nat.{_≤_, min};
 ghost use lib.ListN.{length};
-ghost use Rattle.model.specs.Limits.{linksMost, endsMost};
+ghost use Rattle.model.specs.Limits.{linksMost};
 ghost use Rattle.model.specs.Formed.{sized};
-ghost use Rattle.model.specs.File.{readNumbers};
-ghost use Rattle.drillfile.specs.Headers.{listed, refusedHeader, HeaderPost, fromLinks};
-
-// So many node numbers, with the position after them; or the place of the first that can't be had.
-pub(crate) struct Listed {
-    pub whole: bool,
-    pub place: usize,
-    pub list: [u32; model::ENDS],
-}
+ghost use Rattle.model.specs.File.{accepted};
+ghost use Rattle.drillfile.specs.Headers.{headerOf, refusedHeader, HeaderPost, fromLinks};
 
 // A position past the end counts as the end.
 pub(crate) fn within(length: usize, at: usize) -> usize
@@ -55,54 +48,17 @@ pub(crate) fn refused(answer: u32, place: usize, from: Cursor) -> Headed
     }
 }
 
-// So many node numbers from a position on.
-pub(crate) fn read_list(file: &[u8], at: usize, count: usize) -> Listed
-    requires { ⌜ (at ≤ length (now file)) × (count ≤ endsMost) ⌝ }
-    ensures { λ r. ⌜ (listed count r ≡ readNumbers count (now (file .entry)) at) × (length (r .list) ≡ endsMost) ⌝ }
-{
-    let mut list = [0u32; model::ENDS];
-    let mut place = at;
-    let mut i: usize = 0;
-    while i < count {
-        let Number::Value(node, next) = read_number(file, place) else {
-            return Listed {
-                whole: false,
-                place,
-                list,
-            };
-        };
-        list[i] = node;
-        place = next;
-        i += 1;
-    }
-    Listed {
-        whole: true,
-        place,
-        list,
-    }
-}
-
-// The links of a header whose sizes hold: 11, then 3 and 4.
-pub(crate) fn read_links(
-    file: &[u8],
-    nodes: u32,
-    destination: u32,
-    links: u32,
-    at: usize,
+// What a list of node numbers opens, with the position after it: 3, 4, or the record.
+pub(crate) fn open_list(
+    nodes: usize,
+    destination: usize,
+    list: &[u32],
+    next: usize,
     from: Cursor,
 ) -> Headed
-    requires { ⌜ (at ≤ length (now file)) × (links ≤ linksMost) ⌝ }
-    ensures { λ r. ⌜ HeaderPost (from .at) (fromLinks nodes destination links (now (file .entry)) at) r ⌝ }
+    ensures { λ r. ⌜ HeaderPost (from .at) (accepted (headerOf nodes destination (now (list .entry))) next) r ⌝ }
 {
-    let count = 2 * links as usize;
-    let read = read_list(file, at, count);
-    let whole = read.whole;
-    let place = read.place;
-    if !whole {
-        return refused(SPOILT, place, from);
-    }
-    let list = read.list;
-    let opened = network::open(nodes as usize, destination as usize, &list[..count]);
+    let opened = network::open(nodes, destination, list);
     let network = opened.network;
     let answer = opened.answer;
     if answer != DONE {
@@ -117,6 +73,44 @@ pub(crate) fn read_links(
         network,
         answer,
         place: opened.place,
-        next: Cursor { at: place },
+        next: Cursor { at: next },
     }
+}
+
+// The links of a header whose sizes hold: 11 at the first number that can't be had, then 3 and 4.
+pub(crate) fn read_links(
+    file: &[u8],
+    nodes: u32,
+    destination: u32,
+    links: u32,
+    at: usize,
+    from: Cursor,
+) -> Headed
+    requires { ⌜ (at ≤ length (now file)) × (links ≤ linksMost) ⌝ }
+    ensures { λ r. ⌜ HeaderPost (from .at) (fromLinks nodes destination links (now (file .entry)) at) r ⌝ }
+{
+    let count = links as usize;
+    let mut list = [0u32; model::ENDS];
+    let mut place = at;
+    let mut l: usize = 0;
+    while l < count {
+        let Number::Value(tail, middle) = read_number(file, place) else {
+            return refused(SPOILT, place, from);
+        };
+        let Number::Value(head, next) = read_number(file, middle) else {
+            return refused(SPOILT, middle, from);
+        };
+        list[2 * l] = tail;
+        list[2 * l + 1] = head;
+        place = next;
+        l += 1;
+    }
+    let size = 2 * count;
+    open_list(
+        nodes as usize,
+        destination as usize,
+        &list[..size],
+        place,
+        from,
+    )
 }
