@@ -63,7 +63,7 @@ module _ (number lane : List ℕ) (bit : List Bool) (flying kind a : ℕ) where
   -- where no packet is told of, there is no place to tell
   listed-absent : (gone : ℕ) (r : Asked) → r ≡ record { told = absent gone; at = 0 } → absent gone ≡ tells flight kind a
       → Listed lane flying flight kind a r
-  listed-absent gone r e h = rw e (record { told = h; at = λ z. absurd (clash z refl) })
+  listed-absent gone r e h = rw e (record { told = h; at = λ z. absurd (clash z refl); nowhere = λ z. refl })
 
   pub listed-send : (r : Asked) → r ≡ record { told = absent 0; at = 0 } → kind ≡ 1 → Listed lane flying flight kind a r
   listed-send r e k = listed-absent 0 r e (tells-send flight kind a k)
@@ -93,6 +93,7 @@ module _ (number lane : List ℕ) (bit : List Bool) (flying kind a : ℕ) where
           record {
             told = tells-lane flight kind a n m (oldest .1 ∙ ap (λ j. packetAt number lane bit j ∷ oldest .0) (sym found));
             at = λ z. (l, found, h);
+            nowhere = λ z. absurd (clash refl z);
           }
 
 -- ---- what an event leaves in the arrays

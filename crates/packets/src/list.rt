@@ -6,7 +6,7 @@ ghost use mathlib.Core.Path.{_≡_};
 ghost use mathlib.Core.Bool.{false};
 ghost use mathlib.Core.List.{[], _∷_, _++_};
 ghost use Prim.Native.Nat.{_+_, _≤_, _<_};
-ghost use lib.ListN.{length};
+ghost use lib.ListN.{length, set};
 ghost use Rattle.model.specs.Limits.{endsMost, flightMost};
 ghost use Rattle.model.specs.Fail.{off};
 ghost use Rattle.arrays.specs.Flight.{moves, slots, Slots, packets};
@@ -114,7 +114,7 @@ pub fn put(
     b: bool,
 )
     requires { ⌜ (flying < flightMost) × (x < endsMost) × Slots (now number) (now lane) (now bit) ⌝ }
-    ensures { λ r. ⌜ (packets (now (number .exit)) (now (lane .exit)) (now (bit .exit)) (flying + 1) ≡ packets (now (number .entry)) (now (lane .entry)) (now (bit .entry)) flying ++ (record { number = n; lane = x; bit = b } ∷ [])) × Slots (now (number .exit)) (now (lane .exit)) (now (bit .exit)) ⌝ }
+    ensures { λ r. ⌜ (packets (now (number .exit)) (now (lane .exit)) (now (bit .exit)) (flying + 1) ≡ packets (now (number .entry)) (now (lane .entry)) (now (bit .entry)) flying ++ (record { number = n; lane = x; bit = b } ∷ [])) × Slots (now (number .exit)) (now (lane .exit)) (now (bit .exit)) × (now (number .exit) ≡ set (now (number .entry)) flying n) × (now (lane .exit) ≡ set (now (lane .entry)) flying x) × (now (bit .exit) ≡ set (now (bit .entry)) flying b) ⌝ }
 {
     number[flying] = n;
     lane[flying] = x as u16;

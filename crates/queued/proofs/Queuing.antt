@@ -20,7 +20,7 @@ use Rattle.arrays.proofs.Leaving.{absent, tells-send, tells-link, tells-lane}
 module _ (first : List ℕ) (flight : List Packet) (kind a : ℕ) where
   -- where no packet is told of, there is no place to tell
   told-absent : (gone : ℕ) → absent gone ≡ tells flight kind a → (r : Asked) → r ≡ record { told = absent gone; at = 0 } → Queueing first flight kind a r
-  told-absent gone e r same = rw same record { told = e; at = λ t. absurd (clash t refl) }
+  told-absent gone e r same = rw same record { told = e; at = λ t. absurd (clash t refl); nowhere = λ t. refl }
 
   pub told-send : kind ≡ 1 → (r : Asked) → r ≡ record { told = absent 0; at = 0 } → Queueing first flight kind a r
   told-send k = told-absent 0 (tells-send flight kind a k)
@@ -44,4 +44,5 @@ told-first {lane} {first} {used = used} q number bit kind a i n m l f h =
     (record {
       told = tells-lane (flown number lane bit used) kind a n m (queued-oldest q number bit a l r .1);
       at = λ t. (l, refl, r);
+      nowhere = λ t. absurd (clash refl t);
     })

@@ -4,7 +4,7 @@ use mathlib.Core.Path.{_≡_}
 use mathlib.Core.Bool.{Bool, cond, _&&_}
 use mathlib.Core.List.{List, [], _∷_}
 use lib.Dec.{ltb, eqb}
-use lib.ListN.{length, getD}
+use lib.ListN.{length, getD, set}
 use Rattle.model.specs.Limits.{endsMost, flightMost}
 use Rattle.model.specs.State.{Packet}
 use Rattle.arrays.specs.Flight.{packets}
@@ -49,6 +49,16 @@ pub record Queued (lane first last after : List ℕ) (used : ℕ) : Type 0 where
   pub first-long : length first ≡ endsMost
   pub last-long : length last ≡ endsMost
   pub after-long : length after ≡ room
+
+-- the packet n comes into slot k: behind the last of lane x, or as its first
+pub record Pushed (number lane : List ℕ) (bit : List Bool) (first last after : List ℕ) (k n x : ℕ) (b : Bool)
+    (number′ lane′ : List ℕ) (bit′ : List Bool) (first′ last′ after′ : List ℕ) : Type 0 where
+  pub numbered : number′ ≡ set number k n
+  pub on : lane′ ≡ set lane k x
+  pub with : bit′ ≡ set bit k b
+  pub newest : last′ ≡ set last x k
+  pub leads : first′ ≡ cond (eqb (getD first x 0) room) (set first x k) first
+  pub follows : after′ ≡ cond (eqb (getD first x 0) room) (set after k room) (set (set after k room) (getD last x 0) k)
 
 -- the slots in use that were on link l are empty, the others as they were
 pub record Emptied (l used : ℕ) (old new : List ℕ) : Type 0 where

@@ -3,12 +3,12 @@ use arrays::wide;
 ghost use mathlib.Core.Path.{_≡_};
 ghost use mathlib.Core.Bool.{Bool};
 ghost use mathlib.Core.List.{List, [], _∷_, _++_};
-ghost use Prim.Native.Nat.{ℕ, _+_, _-_, _≤_, _<_};
-ghost use lib.ListN.{length, getD};
+ghost use Prim.Native.Nat.{ℕ, _+_, _-_, _*_, _≤_, _<_};
+ghost use lib.ListN.{length, getD, set};
 ghost use Rattle.model.specs.Limits.{linksMost, endsMost};
 ghost use Rattle.model.specs.Lanes.{less};
 ghost use Rattle.model.specs.Fail.{off};
-ghost use Rattle.queues.specs.Queue.{room, flown, Roomy, Queued, Emptied};
+ghost use Rattle.queues.specs.Queue.{room, noLane, flown, Roomy, Queued, Pushed, Emptied};
 
 // Slots of a burst; as a slot's number it says that there is none.
 pub const ROOM: usize = 2 * model::FLIGHT;
@@ -25,7 +25,7 @@ pub fn take<'a>(
     x: usize,
 )
     requires { ⌜ (i < room) × (x < endsMost) × (length (now lane) ≡ room) × (length (now first) ≡ endsMost) ⌝ }
-    ensures { λ _. ⌜ ((last : List ℕ) (used : ℕ) → Queued (now (lane .entry)) (now (first .entry)) last (now (after .entry)) used → getD (now (first .entry)) x 0 ≡ i → Queued (now (lane .exit)) (now (first .exit)) last (now (after .entry)) used) × ((first last after : List ℕ) (number : List ℕ) (bit : List Bool) (used : ℕ) → Queued (now (lane .entry)) first last after used → getD first x 0 ≡ i → flown number (now (lane .exit)) bit used ≡ less x (flown number (now (lane .entry)) bit used)) × (length (now (lane .exit)) ≡ room) ⌝ }
+    ensures { λ _. ⌜ ((last : List ℕ) (used : ℕ) → Queued (now (lane .entry)) (now (first .entry)) last (now (after .entry)) used → getD (now (first .entry)) x 0 ≡ i → Queued (now (lane .exit)) (now (first .exit)) last (now (after .entry)) used) × ((first last after : List ℕ) (number : List ℕ) (bit : List Bool) (used : ℕ) → Queued (now (lane .entry)) first last after used → getD first x 0 ≡ i → flown number (now (lane .exit)) bit used ≡ less x (flown number (now (lane .entry)) bit used)) × (length (now (lane .exit)) ≡ room) × (now (lane .exit) ≡ set (now (lane .entry)) i noLane) × (now (first .exit) ≡ set (now (first .entry)) x (getD (now (after .entry)) i 0)) ⌝ }
 {
     let next = after[i];
     first[x] = next;
@@ -46,7 +46,7 @@ pub fn push(
     b: bool,
 )
     requires { ⌜ (k < room) × (x < endsMost) × Roomy (now number) (now lane) (now bit) × Queued (now lane) (now first) (now last) (now after) k ⌝ }
-    ensures { λ _. ⌜ (flown (now (number .exit)) (now (lane .exit)) (now (bit .exit)) (k + 1) ≡ flown (now (number .entry)) (now (lane .entry)) (now (bit .entry)) k ++ (record { number = n; lane = x; bit = b } ∷ [])) × Roomy (now (number .exit)) (now (lane .exit)) (now (bit .exit)) × Queued (now (lane .exit)) (now (first .exit)) (now (last .exit)) (now (after .exit)) (k + 1) ⌝ }
+    ensures { λ _. ⌜ (flown (now (number .exit)) (now (lane .exit)) (now (bit .exit)) (k + 1) ≡ flown (now (number .entry)) (now (lane .entry)) (now (bit .entry)) k ++ (record { number = n; lane = x; bit = b } ∷ [])) × Roomy (now (number .exit)) (now (lane .exit)) (now (bit .exit)) × Queued (now (lane .exit)) (now (first .exit)) (now (last .exit)) (now (after .exit)) (k + 1) × Pushed (now (number .entry)) (now (lane .entry)) (now (bit .entry)) (now (first .entry)) (now (last .entry)) (now (after .entry)) k n x b (now (number .exit)) (now (lane .exit)) (now (bit .exit)) (now (first .exit)) (now (last .exit)) (now (after .exit)) ⌝ }
 {
     number[k] = n;
     lane[k] = x as u16;
@@ -97,7 +97,7 @@ fn empty(lane: &mut [u16; ROOM], used: usize, l: usize)
 // The packets on link l go, and its lanes' queues with them.
 pub fn cut(lane: &mut [u16; ROOM], first: &mut [u16; model::ENDS], used: usize, l: usize)
     requires { ⌜ (used ≤ room) × (l < linksMost) × (length (now lane) ≡ room) × (length (now first) ≡ endsMost) ⌝ }
-    ensures { λ _. ⌜ ((last after : List ℕ) → Queued (now (lane .entry)) (now (first .entry)) last after used → Queued (now (lane .exit)) (now (first .exit)) last after used) × ((number : List ℕ) (bit : List Bool) → flown number (now (lane .exit)) bit used ≡ off l (flown number (now (lane .entry)) bit used)) × (length (now (lane .exit)) ≡ room) ⌝ }
+    ensures { λ _. ⌜ ((last after : List ℕ) → Queued (now (lane .entry)) (now (first .entry)) last after used → Queued (now (lane .exit)) (now (first .exit)) last after used) × ((number : List ℕ) (bit : List Bool) → flown number (now (lane .exit)) bit used ≡ off l (flown number (now (lane .entry)) bit used)) × (length (now (lane .exit)) ≡ room) × Emptied l used (now (lane .entry)) (now (lane .exit)) × (now (first .exit) ≡ set (set (now (first .entry)) (2 * l) room) (2 * l + 1) room) ⌝ }
 {
     empty(lane, used, l);
     first[2 * l] = ROOM as u16;

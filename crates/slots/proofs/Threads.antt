@@ -5,8 +5,8 @@ use mathlib.Core.Path.{_≡_, refl, sym, ap, _∙_, subst}
 use mathlib.Core.Logic.{inl, inr}
 use mathlib.Core.List.{List}
 use lib.Dec.{eqb}
-use lib.ListN.{length, getD, set, length-set}
-use lib.Seq.{getD-set-same, getD-set-other}
+use lib.ListN.{length, getD, set, length-set, replicate, length-replicate, getD-replicate}
+use lib.Seq.{getD-set-same, getD-set-other, ext-getD}
 use borrow.Author.Tests.{eqb-true, eqb-false}
 use Rattle.model.specs.Limits.{endsMost}
 use Rattle.model.proofs.Below.{look}
@@ -29,6 +29,11 @@ cleared-more x first h c =
       ];
       long = length-set first x room ∙ c .long;
     }
+
+pub cleared-all : (first : List ℕ) → Cleared endsMost first → first ≡ replicate endsMost room
+cleared-all first c =
+    ext-getD 0 first (replicate endsMost room) (c .long ∙ sym (length-replicate endsMost room))
+    λ u h. let l : u < endsMost = omega (arith, c .long) in c .none u l ∙ sym (getD-replicate endsMost u room 0 l)
 
 module _ (lane : List ℕ) (used : ℕ) where
   -- the slots from i on are in queues

@@ -6,7 +6,7 @@ use queues::NO_LANE;
 use queues::ROOM;
 ghost use mathlib.Core.Path.{_≡_};
 ghost use Prim.Native.Nat.{ℕ, _≤_, _<_};
-ghost use lib.ListN.{length, getD};
+ghost use lib.ListN.{length, getD, replicate};
 ghost use Rattle.model.specs.Limits.{endsMost, flightMost};
 ghost use Rattle.arrays.specs.Flight.{Slots, packets};
 ghost use Rattle.queues.specs.Queue.{room, flown, Roomy, Queued};
@@ -70,7 +70,7 @@ pub fn gather<'a>(
 // No lane has a first slot.
 pub fn clear(first: &mut [u16; model::ENDS])
     requires { ⌜ length (now first) ≡ endsMost ⌝ }
-    ensures { λ _. ⌜ ((x : ℕ) → x < endsMost → getD (now (first .exit)) x 0 ≡ room) × (length (now (first .exit)) ≡ endsMost) ⌝ }
+    ensures { λ _. ⌜ now (first .exit) ≡ replicate endsMost room ⌝ }
 {
     let mut x: usize = 0;
     while x < model::ENDS {

@@ -4,7 +4,7 @@ use native.Mathlib.Omega.{arith}
 use mathlib.Core.Path.{_≡_}
 use denote.Ref.{now}
 use Rattle.model.specs.Limits.{endsMost}
-use Rattle.slots.proofs.Threads.{Cleared, cleared-none, cleared-more}
+use Rattle.slots.proofs.Threads.{Cleared, cleared-none, cleared-more, cleared-all}
 use borrow.Author.Needs.{needs}
 use Rattle.slots.proofs.clear.Statement.{statement}
 use Rattle.slots.proofs.clear.Tie as tie
@@ -40,7 +40,7 @@ returns : tie.Need-returns Inv-loop μ-loop
 returns c =
     let h = c .before .loop in
     let e : h .x ≡ endsMost = omega arith in
-    (rw e at (h .inv .1 .none), h .inv .1 .long)
+    cleared-all (h .first) (rw e at (h .inv .1))
 
 pub clear-spec : {M : Type 1} → statement M
 clear-spec =

@@ -1,6 +1,10 @@
 -- Those that stand are gathered, spread over the first slots and put into queues again. Assumes nothing.
 use native.Mathlib.Omega.{arith}
+use mathlib.Core.Path.{ap, _∙_}
 use denote.Ref.{now}
+use lib.ListN.{length, getD, length-replicate, getD-replicate}
+use Rattle.model.specs.Limits.{endsMost}
+use Rattle.queues.specs.Queue.{room}
 use Rattle.slots.proofs.Gathered.{gathered-named, spread-again}
 use borrow.Author.Needs.{needs}
 use Rattle.slots.proofs.make_room.Statement.{statement}
@@ -26,7 +30,7 @@ thread-lanes-requires c κs =
     let e = c .before .before .before .before .clear .ensures in
     let on = gathered-named (now (a .numbers)) (now (a .lanes)) (now (a .bits)) (n .1 .1 .1 .0) (n .1 .1 .1 .1 .0) (n .1 .1 .1 .1 .1 .0) (a .used) _
     (g .1) (p .2 .named) in
-    (omega arith, λ i l. rw (s .1 i l) (on i l), e .0, e .1, p .2 .last-long, p .2 .after-long)
+    (omega arith, λ i l. rw (s .1 i l) (on i l), λ x l. ap (λ f. getD f x 0) e ∙ getD-replicate endsMost x room 0 l, ap length e ∙ length-replicate endsMost room, p .2 .last-long, p .2 .after-long)
 
 returns : tie.Need-returns
 returns c =

@@ -1,6 +1,6 @@
 -- Three stores. Assumes nothing.
 use Prim.Native.Nat.{_-_}
-use mathlib.Core.Path.{_∙_}
+use mathlib.Core.Path.{refl, _∙_}
 use denote.Ref.{now}
 use lib.ListN.{length-set}
 use Rattle.packets.proofs.Packets.{put-in}
@@ -36,6 +36,9 @@ returns c =
         lane-long = length-set (now (a .lane)) (a .flying) (a .x) ∙ s .lane-long;
         bit-long = length-set (now (a .bit)) (a .flying) (a .b) ∙ s .bit-long;
       },
+      refl,
+      refl,
+      refl,
     )
 
 pub put-spec : {M : Type 1} → statement M

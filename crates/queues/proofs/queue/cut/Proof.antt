@@ -1,5 +1,5 @@
 -- The link's slots are empty, and so are the queues of its two lanes. Assumes nothing.
-use mathlib.Core.Path.{_∙_}
+use mathlib.Core.Path.{refl, _∙_}
 use denote.Ref.{now}
 use Rattle.queues.proofs.Cuts.{flown-off, queued-cut}
 use borrow.Author.Needs.{needs}
@@ -45,6 +45,8 @@ returns c =
       λ last after q. queued-cut lane _ (a .used) (a .l) (b .pre .1) e (now (a .first)) last after q,
       λ number bit. flown-off lane _ (a .used) (a .l) (b .pre .1) e number bit,
       e .long ∙ b .pre .2,
+      e,
+      refl,
     )
 
 pub cut-spec : {M : Type 1} → statement M

@@ -1,10 +1,11 @@
 -- Four stores, and the lane's first or the packet before it. Assumes nothing.
 use Prim.Native.Nat.{_<_}
 use native.Mathlib.Omega.{arith}
-use mathlib.Core.Path.{_≡_, _∙_}
+use mathlib.Core.Path.{_≡_, refl, _∙_}
 use mathlib.Core.Logic.{inl, inr}
 use denote.Ref.{now}
 use lib.ListN.{getD, length-set}
+use borrow.Author.Tests.{eq-eqb, ne-eqb}
 use Rattle.queues.specs.Queue.{room}
 use Rattle.queues.proofs.Standing.{flown-more}
 use Rattle.queues.proofs.Pushes.{last-below, queued-first, queued-last}
@@ -118,6 +119,20 @@ returns c =
             queued-last lane first last after k (p .3) x (p .1) (p .0) (s .lane-long) some (w .2 .result) (c .if1 .first) (c .if1 .after)
             (w .2 .ensures) (w .3) (w .4)
       ],
+      record {
+        numbered = refl;
+        on = refl;
+        with = refl;
+        newest = refl;
+        leads = elim (c .if1 .came) [
+          | inl w ↦ rw (eq-eqb (getD first x 0) room (omega (arith, c .before .wide .ensures, w .0))) (w .1)
+          | inr w ↦ rw (ne-eqb (getD first x 0) room (λ e. omega (arith, e, c .before .wide .ensures, w .0))) (w .3)
+        ];
+        follows = elim (c .if1 .came) [
+          | inl w ↦ rw (eq-eqb (getD first x 0) room (omega (arith, c .before .wide .ensures, w .0))) (w .2)
+          | inr w ↦ rw (ne-eqb (getD first x 0) room (λ e. omega (arith, e, c .before .wide .ensures, w .0)), ← w .2 .ensures) (w .4)
+        ];
+      },
     )
 
 pub push-spec : {M : Type 1} → statement M

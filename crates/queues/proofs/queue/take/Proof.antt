@@ -1,5 +1,5 @@
 -- The next slot of the lane becomes its first, and the slot empty. Assumes nothing.
-use mathlib.Core.Path.{_∙_}
+use mathlib.Core.Path.{refl, _∙_}
 use denote.Ref.{now}
 use lib.ListN.{length-set}
 use Rattle.queues.specs.Queue.{noLane}
@@ -33,6 +33,8 @@ returns c =
       λ last used q e. queued-taken (now (a .lane)) (now (a .first)) last (now (a .after)) used q (a .i) (a .x) (p .1) e (p .0) (p .2),
       λ first last after number bit used q e. flown-taken (now (a .lane)) first last after used q (a .i) (a .x) (p .1) e (p .0) (p .2) number bit,
       length-set (now (a .lane)) (a .i) noLane ∙ p .2,
+      refl,
+      refl,
     )
 
 pub take-spec : {M : Type 1} → statement M
