@@ -45,7 +45,7 @@ const STATED: [(&str, &str); 11] = [
     ("model::limits::NODES", "model::limits::NODE"),
 ];
 const MUST_FAIL: [(&str, &str); 2] = [
-    ("packets/newest_taken", "model/newest_taken"),
+    ("queues/newest_taken", "model/newest_taken"),
     ("model/newest_lost", "newest_lost"),
 ];
 const RUN: [(&str, &str); 8] = [
