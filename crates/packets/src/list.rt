@@ -10,7 +10,7 @@ ghost use lib.ListN.{length, set};
 ghost use Rattle.model.specs.Limits.{endsMost, flightMost};
 ghost use Rattle.model.specs.Fail.{off};
 ghost use Rattle.arrays.specs.Flight.{moves, slots, Slots, packets};
-ghost use Rattle.packets.specs.Moves.{Moved, Removed};
+ghost use Rattle.packets.specs.Moves.{Moved, Removed, Stay};
 
 // One block of numbers moves down by one place.
 fn move_numbers(a: &mut [u32; SLOTS], from: usize)
@@ -130,7 +130,7 @@ pub fn keep_off(
     l: usize,
 ) -> usize
     requires { ⌜ (flying ≤ flightMost) × Slots (now number) (now lane) (now bit) ⌝ }
-    ensures { λ r. ⌜ (r ≤ flying) × (packets (now (number .exit)) (now (lane .exit)) (now (bit .exit)) r ≡ off l (packets (now (number .entry)) (now (lane .entry)) (now (bit .entry)) flying)) × Slots (now (number .exit)) (now (lane .exit)) (now (bit .exit)) ⌝ }
+    ensures { λ r. ⌜ (r ≤ flying) × (packets (now (number .exit)) (now (lane .exit)) (now (bit .exit)) r ≡ off l (packets (now (number .entry)) (now (lane .entry)) (now (bit .entry)) flying)) × Slots (now (number .exit)) (now (lane .exit)) (now (bit .exit)) × Stay r (now (number .entry)) (now (lane .entry)) (now (bit .entry)) (now (number .exit)) (now (lane .exit)) (now (bit .exit)) ⌝ }
 {
     let mut w: usize = 0;
     let mut i: usize = 0;

@@ -50,6 +50,11 @@ pub record Queued (lane first last after : List ℕ) (used : ℕ) : Type 0 where
   pub last-long : length last ≡ endsMost
   pub after-long : length after ≡ room
 
+-- a lane with no slot keeps its last, and the slots from k on keep what comes after them
+pub record Idle (k : ℕ) (first last after last′ after′ : List ℕ) : Type 0 where
+  pub lasts : (x : ℕ) → getD first x 0 ≡ room → getD last′ x 0 ≡ getD last x 0
+  pub afters : (j : ℕ) → k ≤ j → getD after′ j 0 ≡ getD after j 0
+
 -- the packet n comes into slot k: behind the last of lane x, or as its first
 pub record Pushed (number lane : List ℕ) (bit : List Bool) (first last after : List ℕ) (k n x : ℕ) (b : Bool)
     (number′ lane′ : List ℕ) (bit′ : List Bool) (first′ last′ after′ : List ℕ) : Type 0 where

@@ -10,7 +10,7 @@ use lib.Seq.{getD-set-same, getD-set-other, ext-getD}
 use borrow.Author.Tests.{eqb-true, eqb-false}
 use Rattle.model.specs.Limits.{endsMost}
 use Rattle.model.proofs.Below.{look}
-use Rattle.queues.specs.Queue.{room, Next, Queued}
+use Rattle.queues.specs.Queue.{room, Next, Queued, Idle}
 
 -- the lanes below x have no first slot
 pub record Cleared (x : ℕ) (first : List ℕ) : Type 0 where
@@ -63,6 +63,10 @@ module _ (lane : List ℕ) (used : ℕ) where
         after-long = al;
       }
 
+  -- what no slot is threaded into stays
+  pub idle-none : (first last after : List ℕ) → Idle used first last after last after
+  idle-none first last after = record { lasts = λ x e. refl; afters = λ j h. refl }
+
   -- a slot on another lane is passed
   next-down : (x i f : ℕ) → Next lane used x (suc i) f → (getD lane i 0 ≡ x → ⊥) → Next lane used x i f
   next-down x i f n ne =
@@ -105,6 +109,27 @@ module _ (lane : List ℕ) (used : ℕ) where
           let ne : j ≡ i → ⊥ = eqb-false j i e in
           rw (getD-set-other after i j (getD first v 0) 0 ne) (t .goes j (omega (arith, ne)) k)
     ]
+
+    -- a lane that has no slot now is another one
+    idle-other : (u : ℕ) → getD (set first v i) u 0 ≡ room → u ≡ v → ⊥
+    idle-other u e same = omega (arith, sym first-same ∙ ap (λ w. getD (set first v i) w 0) (sym same) ∙ e)
+
+    idle-after : {last₀ after₀ : List ℕ} → Idle used first last₀ after₀ last after
+        → (j : ℕ) → used ≤ j → getD (set after i (getD first v 0)) j 0 ≡ getD after₀ j 0
+    idle-after s j h = getD-set-other after i j (getD first v 0) 0 (λ e. omega arith) ∙ s .afters j h
+
+    idle-last : {last₀ after₀ : List ℕ} → Idle used first last₀ after₀ last after
+        → (u : ℕ) → getD (set first v i) u 0 ≡ room → getD last u 0 ≡ getD last₀ u 0
+    idle-last s u e = s .lasts u (sym (first-other u (idle-other u e)) ∙ e)
+
+    pub idle-on : {last₀ after₀ : List ℕ} → Idle used first last₀ after₀ last after
+        → Idle used (set first v i) last₀ after₀ last (set after i (getD first v 0))
+    idle-on s = record { lasts = idle-last s; afters = idle-after s }
+
+    pub idle-first : {last₀ after₀ : List ℕ} → Idle used first last₀ after₀ last after
+        → Idle used (set first v i) last₀ after₀ (set last v i) (set after i (getD first v 0))
+    idle-first s =
+        record { lasts = λ u e. getD-set-other last v u i 0 (idle-other u e) ∙ idle-last s u e; afters = idle-after s }
 
     -- the lane has a queue: its last slot stays
     pub threading-on : (getD first v 0 ≡ room → ⊥) → Threading i (set first v i) last (set after i (getD first v 0))

@@ -9,7 +9,8 @@ ghost use Prim.Native.Nat.{ℕ, _≤_, _<_};
 ghost use lib.ListN.{length, getD, replicate};
 ghost use Rattle.model.specs.Limits.{endsMost, flightMost};
 ghost use Rattle.arrays.specs.Flight.{Slots, packets};
-ghost use Rattle.queues.specs.Queue.{room, flown, Roomy, Queued};
+ghost use Rattle.packets.specs.Moves.{Stay};
+ghost use Rattle.queues.specs.Queue.{room, flown, Roomy, Queued, Idle};
 
 // The packets of a record, slot by slot.
 pub fn spread<'a>(
@@ -22,7 +23,7 @@ pub fn spread<'a>(
     flying: usize,
 )
     requires { ⌜ (flying ≤ flightMost) × Roomy (now numbers) (now lanes) (now bits) ⌝ }
-    ensures { λ _. ⌜ (packets (now (numbers .exit)) (now (lanes .exit)) (now (bits .exit)) flying ≡ packets (now (number .entry)) (now (lane .entry)) (now (bit .entry)) flying) × ((i : ℕ) → i < flying → getD (now (lanes .exit)) i 0 ≡ getD (now (lane .entry)) i 0) × Roomy (now (numbers .exit)) (now (lanes .exit)) (now (bits .exit)) ⌝ }
+    ensures { λ _. ⌜ (packets (now (numbers .exit)) (now (lanes .exit)) (now (bits .exit)) flying ≡ packets (now (number .entry)) (now (lane .entry)) (now (bit .entry)) flying) × ((i : ℕ) → i < flying → getD (now (lanes .exit)) i 0 ≡ getD (now (lane .entry)) i 0) × Roomy (now (numbers .exit)) (now (lanes .exit)) (now (bits .exit)) × Stay flying (now (numbers .entry)) (now (lanes .entry)) (now (bits .entry)) (now (numbers .exit)) (now (lanes .exit)) (now (bits .exit)) ⌝ }
 {
     let mut i: usize = 0;
     while i < flying {
@@ -47,7 +48,7 @@ pub fn gather<'a>(
     used: usize,
 ) -> usize
     requires { ⌜ (used ≤ room) × (length (flown (now numbers) (now lanes) (now bits) used) ≤ flightMost) × Slots (now number) (now lane) (now bit) ⌝ }
-    ensures { λ r. ⌜ (r ≡ length (flown (now (numbers .entry)) (now (lanes .entry)) (now (bits .entry)) used)) × (packets (now (number .exit)) (now (lane .exit)) (now (bit .exit)) r ≡ flown (now (numbers .entry)) (now (lanes .entry)) (now (bits .entry)) used) × Slots (now (number .exit)) (now (lane .exit)) (now (bit .exit)) ⌝ }
+    ensures { λ r. ⌜ (r ≡ length (flown (now (numbers .entry)) (now (lanes .entry)) (now (bits .entry)) used)) × (packets (now (number .exit)) (now (lane .exit)) (now (bit .exit)) r ≡ flown (now (numbers .entry)) (now (lanes .entry)) (now (bits .entry)) used) × Slots (now (number .exit)) (now (lane .exit)) (now (bit .exit)) × Stay r (now (number .entry)) (now (lane .entry)) (now (bit .entry)) (now (number .exit)) (now (lane .exit)) (now (bit .exit)) ⌝ }
 {
     let mut w: usize = 0;
     let mut i: usize = 0;
@@ -88,7 +89,7 @@ pub fn thread_lanes(
     after: &mut [u16; ROOM],
 )
     requires { ⌜ (used ≤ room) × ((i : ℕ) → i < used → getD (now lane) i 0 < endsMost) × ((x : ℕ) → x < endsMost → getD (now first) x 0 ≡ room) × (length (now first) ≡ endsMost) × (length (now last) ≡ endsMost) × (length (now after) ≡ room) ⌝ }
-    ensures { λ _. ⌜ Queued (now (lane .entry)) (now (first .exit)) (now (last .exit)) (now (after .exit)) used ⌝ }
+    ensures { λ _. ⌜ Queued (now (lane .entry)) (now (first .exit)) (now (last .exit)) (now (after .exit)) used × Idle used (now (first .exit)) (now (last .entry)) (now (after .entry)) (now (last .exit)) (now (after .exit)) ⌝ }
 {
     let mut i = used;
     while 0 < i {
@@ -114,7 +115,7 @@ pub fn make_room(
     used: usize,
 ) -> usize
     requires { ⌜ (length (flown (now numbers) (now lanes) (now bits) used) ≤ flightMost) × Roomy (now numbers) (now lanes) (now bits) × Queued (now lanes) (now first) (now last) (now after) used ⌝ }
-    ensures { λ r. ⌜ (r ≡ length (flown (now (numbers .entry)) (now (lanes .entry)) (now (bits .entry)) used)) × (flown (now (numbers .exit)) (now (lanes .exit)) (now (bits .exit)) r ≡ flown (now (numbers .entry)) (now (lanes .entry)) (now (bits .entry)) used) × Roomy (now (numbers .exit)) (now (lanes .exit)) (now (bits .exit)) × Queued (now (lanes .exit)) (now (first .exit)) (now (last .exit)) (now (after .exit)) r ⌝ }
+    ensures { λ r. ⌜ (r ≡ length (flown (now (numbers .entry)) (now (lanes .entry)) (now (bits .entry)) used)) × (flown (now (numbers .exit)) (now (lanes .exit)) (now (bits .exit)) r ≡ flown (now (numbers .entry)) (now (lanes .entry)) (now (bits .entry)) used) × Roomy (now (numbers .exit)) (now (lanes .exit)) (now (bits .exit)) × Queued (now (lanes .exit)) (now (first .exit)) (now (last .exit)) (now (after .exit)) r × Stay r (now (numbers .entry)) (now (lanes .entry)) (now (bits .entry)) (now (numbers .exit)) (now (lanes .exit)) (now (bits .exit)) × Idle r (now (first .exit)) (now (last .entry)) (now (after .entry)) (now (last .exit)) (now (after .exit)) ⌝ }
 {
     let mut number = [0u32; SLOTS];
     let mut lane = [0u16; SLOTS];

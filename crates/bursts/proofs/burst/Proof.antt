@@ -127,7 +127,7 @@ run-requires c κs =
       whole (c .before .before .before .before .before .before .before .before .before .before .before .before .before .before .before .before .before .before .before .before .before .before .before .before .before .before .before .before .before .before .before .before .before .before .before .before .before .before .before .before .before .before .before .before .before .before .before .before .before .before .before .before),
       λ e. c .before .before .before .before .before .before .before .before .before .before .before .before .before .before .before .before .before .before .before .before .before .before .before .before .before .before .before .before .before .before .before .before .before .before .before .before .before .before .before .before .thread .ensures,
       c .before .before .before .before .before .before .before .before .before .before .before .before .before .before .before .before .before .before .before .before .before .before .before .before .spread .ensures .2,
-      subst (λ k. Queued (m .1 .1 .1 .1 .0) (q .1 .1 .0) (q .1 .1 .1 .0) (q .1 .1 .1 .1 .0) k) (sym (ap (λ (t : Tally). t .flying) t)) (c .before .before .before .before .before .before .before .before .before .before .before .before .before .before .before .before .before .before .before .thread-lanes .ensures),
+      subst (λ k. Queued (m .1 .1 .1 .1 .0) (q .1 .1 .0) (q .1 .1 .1 .0) (q .1 .1 .1 .1 .0) k) (sym (ap (λ (t : Tally). t .flying) t)) (c .before .before .before .before .before .before .before .before .before .before .before .before .before .before .before .before .before .before .before .thread-lanes .ensures .0),
       z .first,
       z .second,
       z .third,

@@ -5,6 +5,8 @@ use mathlib.Core.Path.{_≡_}
 use denote.Ref.{now}
 use Rattle.model.specs.Limits.{flightMost}
 use Rattle.slots.proofs.Gathered.{Gathered, gathered-none, gathered-many, gathered-gone, gathered-room, gathered-stays}
+use Rattle.packets.specs.Moves.{Stay}
+use Rattle.packets.proofs.Stays.{stay-all, stay-more}
 use borrow.Author.Needs.{needs}
 use Rattle.slots.proofs.gather.Statement.{statement}
 use Rattle.slots.proofs.gather.Tie as tie
@@ -12,7 +14,7 @@ use Rattle.slots.proofs.gather.Reads as reads
 use Rattle.slots.proofs.gather.Lts as lts
 
 abbrev Inv-loop : tie.InvT-loop
-Inv-loop numbers lanes bits number₀ lane₀ bit₀ used w₀ i₀ number lane bit w i = (i ≤ used) × Gathered numbers lanes bits i w number lane bit
+Inv-loop numbers lanes bits number₀ lane₀ bit₀ used w₀ i₀ number lane bit w i = (i ≤ used) × Gathered numbers lanes bits i w number lane bit × Stay w number₀ lane₀ bit₀ number lane bit
 
 abbrev μ-loop : tie.MeasureT-loop
 μ-loop numbers lanes bits number₀ lane₀ bit₀ used w₀ i₀ number lane bit w i = used - i
@@ -20,7 +22,7 @@ abbrev μ-loop : tie.MeasureT-loop
 loop-holds : tie.Need-loop-holds Inv-loop μ-loop
 loop-holds c =
     let a = c .args in
-    (omega arith, gathered-none (now (a .numbers)) (now (a .lanes)) (now (a .bits)) (now (a .number)) (now (a .lane)) (now (a .bit)) (c .pre .2))
+    (omega arith, gathered-none (now (a .numbers)) (now (a .lanes)) (now (a .bits)) (now (a .number)) (now (a .lane)) (now (a .bit)) (c .pre .2), stay-all 0 _ _ _)
 
 add-i : tie.Need-add-i Inv-loop μ-loop
 add-i c = search needs
@@ -72,7 +74,7 @@ loop-again : tie.Need-loop-again Inv-loop μ-loop
 loop-again c =
     let a = c .before .before .before .before .before .before .args in
     let h = c .before .before .before .before .before .loop in
-    (omega arith, gathered-stays (now (a .numbers)) (now (a .lanes)) (now (a .bits)) (h .i) (h .w) (h .number) (h .lane) (h .bit) (h .inv .1) (c .before .before .if1 .taken) (free c))
+    (omega arith, gathered-stays (now (a .numbers)) (now (a .lanes)) (now (a .bits)) (h .i) (h .w) (h .number) (h .lane) (h .bit) (h .inv .1) (c .before .before .if1 .taken) (free c), stay-more (h .w) (h .number) (h .lane) (h .bit) _ _ _ (h .inv .2))
 
 loop-less-2 : tie.Need-loop-less-2 Inv-loop μ-loop
 loop-less-2 c = search needs
@@ -81,7 +83,7 @@ loop-again-2 : tie.Need-loop-again-2 Inv-loop μ-loop
 loop-again-2 c =
     let a = c .before .before .before .before .args in
     let h = c .before .before .before .loop in
-    (omega arith, gathered-gone (now (a .numbers)) (now (a .lanes)) (now (a .bits)) (h .i) (h .w) (h .number) (h .lane) (h .bit) (h .inv .1) (c .if1 .left))
+    (omega arith, gathered-gone (now (a .numbers)) (now (a .lanes)) (now (a .bits)) (h .i) (h .w) (h .number) (h .lane) (h .bit) (h .inv .1) (c .if1 .left), h .inv .2)
 
 returns : tie.Need-returns Inv-loop μ-loop
 returns c =
@@ -91,6 +93,7 @@ returns c =
       rw e at (gathered-many (now (a .numbers)) (now (a .lanes)) (now (a .bits)) (h .i) (h .w) (h .number) (h .lane) (h .bit) (h .inv .1)),
       rw e at (h .inv .1 .gathered),
       h .inv .1 .slotted,
+      h .inv .2,
     )
 
 pub gather-spec : {M : Type 1} → statement M

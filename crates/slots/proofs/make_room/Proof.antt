@@ -44,7 +44,9 @@ returns c =
       spread-again (now (a .numbers)) (now (a .lanes)) (now (a .bits)) (n .1 .1 .1 .0) (n .1 .1 .1 .1 .0) (n .1 .1 .1 .1 .1 .0) (a .used) _
           (g .1) (m .1 .1 .1 .0) (m .1 .1 .1 .1 .0) (m .1 .1 .1 .1 .1 .0) (s .0),
       s .2,
-      c .thread-lanes .ensures,
+      c .thread-lanes .ensures .0,
+      s .3,
+      c .thread-lanes .ensures .1,
     )
 
 pub make-room-spec : {M : Type 1} → statement M

@@ -4,12 +4,14 @@ use native.Mathlib.Omega.{arith}
 use mathlib.Core.Path.{_≡_}
 use denote.Ref.{now}
 use Rattle.slots.proofs.Gathered.{Spread, spread-none, spread-more}
+use Rattle.packets.specs.Moves.{Stay}
+use Rattle.packets.proofs.Stays.{stay-all, stay-more}
 use borrow.Author.Needs.{needs}
 use Rattle.slots.proofs.spread.Statement.{statement}
 use Rattle.slots.proofs.spread.Tie as tie
 
 abbrev Inv-loop : tie.InvT-loop
-Inv-loop number lane bit numbers₀ lanes₀ bits₀ flying i₀ numbers lanes bits i = (i ≤ flying) × Spread number lane bit i numbers lanes bits
+Inv-loop number lane bit numbers₀ lanes₀ bits₀ flying i₀ numbers lanes bits i = (i ≤ flying) × Spread number lane bit i numbers lanes bits × Stay i numbers₀ lanes₀ bits₀ numbers lanes bits
 
 abbrev μ-loop : tie.MeasureT-loop
 μ-loop number lane bit numbers₀ lanes₀ bits₀ flying i₀ numbers lanes bits i = flying - i
@@ -17,7 +19,7 @@ abbrev μ-loop : tie.MeasureT-loop
 loop-holds : tie.Need-loop-holds Inv-loop μ-loop
 loop-holds c =
     let a = c .args in
-    (omega arith, spread-none (now (a .number)) (now (a .lane)) (now (a .bit)) (now (a .numbers)) (now (a .lanes)) (now (a .bits)) (c .pre .1))
+    (omega arith, spread-none (now (a .number)) (now (a .lane)) (now (a .bit)) (now (a .numbers)) (now (a .lanes)) (now (a .bits)) (c .pre .1), stay-all 0 _ _ _)
 
 mul-n : tie.Need-mul-n Inv-loop μ-loop
 mul-n c = search needs
@@ -59,13 +61,13 @@ loop-again : tie.Need-loop-again Inv-loop μ-loop
 loop-again c =
     let a = c .before .before .before .before .before .args in
     let h = c .before .before .before .before .loop in
-    (omega arith, spread-more (now (a .number)) (now (a .lane)) (now (a .bit)) (h .i) (h .numbers) (h .lanes) (h .bits) (h .inv .1) (omega arith))
+    (omega arith, spread-more (now (a .number)) (now (a .lane)) (now (a .bit)) (h .i) (h .numbers) (h .lanes) (h .bits) (h .inv .1) (omega arith), stay-more (h .i) (h .numbers) (h .lanes) (h .bits) _ _ _ (h .inv .2))
 
 returns : tie.Need-returns Inv-loop μ-loop
 returns c =
     let h = c .before .loop in
     let e : h .i ≡ c .before .before .args .flying = omega arith in
-    (rw e at (h .inv .1 .same), rw e at (h .inv .1 .lane-same), h .inv .1 .roomy)
+    (rw e at (h .inv .1 .same), rw e at (h .inv .1 .lane-same), h .inv .1 .roomy, rw e at (h .inv .2))
 
 pub spread-spec : {M : Type 1} → statement M
 spread-spec =

@@ -6,7 +6,8 @@ use denote.Ref.{now}
 use mathlib.Core.Logic.{inl, inr}
 use lib.ListN.{getD}
 use Rattle.model.specs.Limits.{endsMost}
-use Rattle.slots.proofs.Threads.{Threading, threading-none, threading-on, threading-first, threading-all}
+use Rattle.queues.specs.Queue.{Idle}
+use Rattle.slots.proofs.Threads.{Threading, threading-none, threading-on, threading-first, threading-all, idle-none, idle-first, idle-on}
 use borrow.Author.Needs.{needs}
 use Rattle.slots.proofs.thread_lanes.Statement.{statement}
 use Rattle.slots.proofs.thread_lanes.Tie as tie
@@ -15,7 +16,7 @@ use Rattle.slots.proofs.thread_lanes.Lts as lts
 use Rattle.arrays.proofs.wide.Reads as wide-reads
 
 abbrev Inv-loop : tie.InvT-loop
-Inv-loop lane used first₀ last₀ after₀ i₀ first last after i = (i ≤ used) × Threading lane used i first last after
+Inv-loop lane used first₀ last₀ after₀ i₀ first last after i = (i ≤ used) × Threading lane used i first last after × Idle used first last₀ after₀ last after
 
 abbrev μ-loop : tie.MeasureT-loop
 μ-loop lane used first₀ last₀ after₀ i₀ first last after i = i
@@ -23,7 +24,7 @@ abbrev μ-loop : tie.MeasureT-loop
 loop-holds : tie.Need-loop-holds Inv-loop μ-loop
 loop-holds c =
     let a = c .args in
-    (omega arith, threading-none (now (a .lane)) (a .used) (now (a .first)) (now (a .last)) (now (a .after)) (c .pre .2) (c .pre .3) (c .pre .4) (c .pre .5))
+    (omega arith, threading-none (now (a .lane)) (a .used) (now (a .first)) (now (a .last)) (now (a .after)) (c .pre .2) (c .pre .3) (c .pre .4) (c .pre .5), idle-none (now (a .lane)) (a .used) _ _ _)
 
 sub-i : tie.Need-sub-i Inv-loop μ-loop
 sub-i c = search needs
@@ -92,10 +93,12 @@ loop-again c =
       | inl p ↦ (
         omega arith,
         rw (p .1, v) (threading-first (now (a .lane)) (a .used) (c .before .before .before .before .before .before .before .pre .0) i (h .first) (h .last) (h .after) t (omega arith) b (rw v at (sym w ∙ p .0 .taken))),
+        rw (p .1, v) (idle-first (now (a .lane)) (a .used) (c .before .before .before .before .before .before .before .pre .0) i (h .first) (h .last) (h .after) t (omega arith) b (h .inv .2)),
       )
       | inr p ↦ (
         omega arith,
         rw (p .1, v) (threading-on (now (a .lane)) (a .used) (c .before .before .before .before .before .before .before .pre .0) i (h .first) (h .last) (h .after) t (omega arith) b (λ e. p .0 .left (w ∙ rw v e))),
+        rw (p .1, v) (idle-on (now (a .lane)) (a .used) (c .before .before .before .before .before .before .before .pre .0) i (h .first) (h .last) (h .after) t (omega arith) b (h .inv .2)),
       )
     ]
 
@@ -104,7 +107,7 @@ returns c =
     let a = c .before .before .args in
     let h = c .before .loop in
     let z : h .i ≡ 0 = omega arith in
-    threading-all (now (a .lane)) (a .used) (c .before .before .pre .0) (c .before .before .pre .1) (h .first) (h .last) (h .after) (rw z at (h .inv .1))
+    (threading-all (now (a .lane)) (a .used) (c .before .before .pre .0) (c .before .before .pre .1) (h .first) (h .last) (h .after) (rw z at (h .inv .1)), h .inv .2)
 
 pub thread-lanes-spec : {M : Type 1} → statement M
 thread-lanes-spec =
