@@ -303,6 +303,9 @@ others =
     (gave 0 (Packet 0) (Lane 0) (0 ∷ 0 ∷ []) (count 1_000_000 1 0 0 0))
     ∷ row (on-made one-link (send 1 ∷ []) (flight-is (packet 0 0 true ∷ []) ∷ []) (deliver 0))
     (gave 10 Nothing Nowhere (0 ∷ 0 ∷ []) (count 1 1 0 0 0))
+    -- a full flight, and a node with no live link
+    ∷ row (on-made (net 3 0 (1 ∷ 0 ∷ [])) [] (flight-is (replicate 256 (packet 0 0 false)) ∷ counts-are (count 256 256 0 0 0) ∷ []) (send 2))
+    (gave 0 (Packet 256) Stranded (0 ∷ 0 ∷ 0 ∷ []) (count 257 257 0 0 1))
     -- a failure with packets on both lanes
     ∷ row (on-made one-link [] (flight-is (packet 0 0 false ∷ packet 1 1 false ∷ []) ∷ counts-are (count 2 2 0 0 0) ∷ []) (fail 0))
     (gave 0 Nothing Nowhere (0 ∷ 0 ∷ []) (count 3 2 0 2 0))
