@@ -1,12 +1,10 @@
 -- Laws of entries in use and of searches, for loops that go through an array. Assumes nothing.
-use Prim.Native.Nat.{ℕ, zero, suc, _+_, _-_, _*_, _≤_, _<_, min}
+use Prim.Native.Nat.{ℕ, zero, suc, _+_, _-_, _≤_, _<_, min}
 use native.Mathlib.Omega.{arith}
 use native.Mathlib.Numerals.{add-one}
-use mathlib.Core.Path.{_≡_, refl, sym, _∙_, subst}
-use mathlib.Core.Logic.{_⊎_, inl, inr}
-use mathlib.Core.Bool.{Bool, true, false, cond, _||_}
-use lib.Dec.{ltb}
-use borrow.Author.Tests.{lt-ltb, le-ltb}
+use mathlib.Core.Path.{_≡_, refl, _∙_, subst}
+use mathlib.Core.Logic.{inl, inr}
+use mathlib.Core.Bool.{Bool, true, false, _||_}
 use Rattle.model.specs.Below.{any, first}
 use Rattle.model.proofs.Below.{look, or-neither, any-false}
 
@@ -70,39 +68,6 @@ pub first-block : (p : ℕ → Bool) (n i k : ℕ) → any (λ j. p (i + j)) n �
 first-block p n i k e l =
     let on : i + (min (i + n) k - i) ≡ min (i + n) k = omega arith in
     first-skip p (min (i + n) k - i) i k (λ j b. any-false (λ m. p (i + m)) n j e (omega arith)) (omega arith) ∙ rw on
-
--- ---- by ends, and by links of two ends
-module _ (p : ℕ → Bool) where
-  abbrev link : ℕ → Bool
-  link l = p (2 * l + 0) || p (2 * l + 1)
-
-  abbrev endOf : ℕ → ℕ
-  endOf l = cond (p (2 * l + 0)) (2 * l + 0) (2 * l + 1)
-
-  pub first-by-links : (k i : ℕ) → first p (2 * i) (2 * k) ≡ cond (ltb (first link i k) (i + k)) (endOf (first link i k)) (2 * (i + k))
-  unfolding first
-  first-by-links zero i = rw (le-ltb i (i + 0) (omega arith)) (omega arith)
-  first-by-links (suc k) i = go (first-by-links k (suc i)) (look (p (2 * i + 0))) (look (p (2 * i + 1)))
-    where
-      two : 2 * suc k ≡ suc (suc (2 * k))
-      two = omega arith
-
-      here : 2 * i + 0 ≡ 2 * i
-      here = omega arith
-
-      there : 2 * i + 1 ≡ suc (2 * i)
-      there = omega arith
-
-      go : first p (2 * suc i) (2 * k) ≡ cond (ltb (first link (suc i) k) (suc i + k)) (endOf (first link (suc i) k)) (2 * (suc i + k))
-          → (p (2 * i + 0) ≡ true) ⊎ (p (2 * i + 0) ≡ false) → (p (2 * i + 1) ≡ true) ⊎ (p (2 * i + 1) ≡ false)
-          → first p (2 * i) (2 * suc k) ≡ cond (ltb (first link i (suc k)) (i + suc k)) (endOf (first link i (suc k))) (2 * (i + suc k))
-      go r (inl a) b = rw (two, rw here at a, a, lt-ltb i (i + suc k) (omega arith), a) (sym here)
-      go r (inr a) (inl b) =
-          rw (two, rw here at a, rw there at b, a, b, lt-ltb i (i + suc k) (omega arith), a) (sym there)
-      go r (inr a) (inr b) =
-          let on : suc (suc (2 * i)) ≡ 2 * suc i = omega arith in
-          let sum : suc i + k ≡ i + suc k = omega arith in
-          rw (two, rw here at a, rw there at b, a, b, on, ← sum) r
 
 -- ---- what a search finds
 pub first-least : (p : ℕ → Bool) (k i : ℕ) → i ≤ first p i k

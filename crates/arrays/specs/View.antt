@@ -1,12 +1,14 @@
 -- What a reader sees of a record: the entries in use, and nothing past them.
-use Prim.Native.Nat.{ℕ, _+_, _-_, _*_, _<_}
+use Prim.Native.Nat.{ℕ, _+_, _-_, _*_, _/_, _≤_, _<_}
 use mathlib.Core.Path.{_≡_}
-use mathlib.Core.Bool.{Bool, false, cond}
+use mathlib.Core.Bool.{Bool, true, false, cond, _||_}
 use mathlib.Core.List.{List, []}
 use lib.Dec.{ltb, eqb}
-use lib.ListN.{getD}
+use lib.ListN.{length, getD}
+use Rattle.model.specs.Limits.{nodesMost, endsMost}
 use Rattle.model.specs.Below.{first}
-use Rattle.model.specs.State.{Net, Ends, Packet, Counts, State}
+use Rattle.model.specs.State.{Net, Ends, Packet, Counts, State, lanes}
+use Rattle.model.specs.Departure.{hasOut, door}
 use Rattle.arrays.specs.declared.Tally.{Tally}
 
 -- an array's first k entries; from there on the default
@@ -57,14 +59,34 @@ endsSeen links node live out local mark =
     stateOf (netOf 0 0 links node) live (endsOf links out local [] mark) [] []
     (record { events = 0; admitted = 0; delivered = 0; lost = 0; stranded = 0 })
 
--- the first end of node v from end x on, or the number of ends
-abbrev pub endFrom : List ℕ → ℕ → ℕ → ℕ → ℕ
-endFrom node links v x = first (λ y. eqb (getD node y 0) v) x (2 * links - x)
+-- the way out of node v: the end that it sends from, or the number of ends
+abbrev pub wayOut : State → ℕ → ℕ
+wayOut s v = cond (hasOut s v) (door s v) (lanes s)
 
--- the ends of node v in a chain: the first, and after each the next
+-- link l has an end at node v; that end, the first where both are there
+abbrev pub linkAt : List ℕ → ℕ → ℕ → Bool
+linkAt node v l = eqb (getD node (2 * l) 0) v || eqb (getD node (2 * l + 1) 0) v
+
+abbrev pub endAt : List ℕ → ℕ → ℕ → ℕ
+endAt node v l = cond (eqb (getD node (2 * l) 0) v) (2 * l) (2 * l + 1)
+
+-- the first link of node v from link l on, or the number of links
+abbrev pub linkFrom : List ℕ → ℕ → ℕ → ℕ → ℕ
+linkFrom node links v l = first (linkAt node v) l (links - l)
+
+-- the links from l on in chains, one for each node: its first link, and at each of its ends the next one; 0 past the ends
+pub record Threaded (links : ℕ) (node heads next : List ℕ) (l : ℕ) : Type 0 where
+  pub heads-long : length heads ≡ nodesMost
+  pub next-long : length next ≡ endsMost
+  pub begins : (v : ℕ) → v < nodesMost → getD heads v 0 ≡ linkFrom node links v l
+  pub goes : (x : ℕ) → 2 * l ≤ x → x < 2 * links → getD next x 0 ≡ linkFrom node links (getD node x 0) (x / 2 + 1)
+  pub rest : (x : ℕ) → 2 * links ≤ x → x < endsMost → getD next x 0 ≡ 0
+
+-- the links of node v in a chain: the first, and after each the next; none has both its ends there
 pub record Chain (links : ℕ) (node heads next : List ℕ) (v : ℕ) : Type 0 where
-  pub begins : getD heads v 0 ≡ endFrom node links v 0
-  pub goes : (x : ℕ) → x < 2 * links → getD node x 0 ≡ v → getD next x 0 ≡ endFrom node links v (x + 1)
+  pub begins : getD heads v 0 ≡ linkFrom node links v 0
+  pub goes : (l : ℕ) → l < links → linkAt node v l ≡ true → getD next (endAt node v l) 0 ≡ linkFrom node links v (l + 1)
+  pub apart : (l : ℕ) → l < links → eqb (getD node (2 * l) 0) v ≡ true → eqb (getD node (2 * l + 1) 0) v ≡ false
 
 -- ends name nodes
 abbrev pub Named : ℕ → ℕ → List ℕ → Type 0

@@ -1,17 +1,17 @@
 -- What a well-formed record tells of its arrays. Assumes nothing.
 use Prim.Native.Nat.{ℕ, _+_, _*_, _/_, _≤_, _<_}
 use native.Mathlib.Omega.{arith}
-use mathlib.Core.Path.{_≡_, sym, _∙_, subst}
+use mathlib.Core.Path.{_≡_, refl, sym, _∙_, subst}
 use mathlib.Core.Logic.{_⊎_, inl, inr}
 use mathlib.Core.Bool.{Bool, true, false, not, _&&_}
 use mathlib.Core.List.{List}
 use lib.Dec.{ltb, leb, eqb}
 use lib.ListN.{length, getD}
-use borrow.Author.Tests.{leb-true, ltb-true}
+use borrow.Author.Tests.{leb-true, ltb-true, eq-eqb}
 use Rattle.model.specs.Limits.{nodesMost, linksMost, flightMost}
 use Rattle.model.specs.State.{State, Packet, end, linkOf}
 use Rattle.model.specs.Formed.{sized, joins, wellFormed}
-use Rattle.model.proofs.Below.{and-both}
+use Rattle.model.proofs.Below.{clash, and-both}
 use Rattle.model.proofs.Ends.{which-end}
 use Rattle.model.proofs.Formed.{formed-if}
 use Rattle.arrays.specs.declared.Tally.{Tally}
@@ -69,6 +69,18 @@ module _ (node : List ℕ) (live out local remote mark : List Bool) (turns : Lis
           → (x : ℕ) → x < 2 * links → (x ≡ end (linkOf x) 0) ⊎ (x ≡ end (linkOf x) 1) → getD node x 0 < nodes
       named j x h (inl q) = subst (λ m. getD node m 0 < nodes) (sym q) (node-of (linkOf x) 0 (omega arith) (omega arith) nodes (two nodes _ _ (j (linkOf x) (omega arith)) .0))
       named j x h (inr q) = subst (λ m. getD node m 0 < nodes) (sym q) (node-of (linkOf x) 1 (omega arith) (omega arith) nodes (two nodes _ _ (j (linkOf x) (omega arith)) .1))
+
+-- a link joins two nodes
+differ : (n a b : ℕ) → joins n a b ≡ true → a ≡ b → ⊥
+differ n a b e q = clash (rw (eq-eqb a b q) at (and-both (ltb a n && ltb b n) (not (eqb a b)) e .1)) refl
+
+pub joins-two : (node : List ℕ) (live out local remote mark : List Bool) (turns : List ℕ) (nodes destination links : ℕ) (flight : List Packet) (t : Tally)
+    → wellFormed (stateWith node live out local remote mark turns nodes destination links flight t) ≡ true
+    → (l : ℕ) → l < links → getD node (2 * l) 0 ≡ getD node (2 * l + 1) 0 → ⊥
+joins-two node live out local remote mark turns nodes destination links flight t e l h q =
+    let none : 2 * l + 0 ≡ 2 * l = omega arith in
+    differ nodes _ _ (formed-if (stateWith node live out local remote mark turns nodes destination links flight t) e .net .links l h)
+    (rw none (used-in (2 * links) 0 node (2 * l) (omega arith) ∙ q ∙ sym (used-in (2 * links) 0 node (2 * l + 1) (omega arith))))
 
 -- no more packets are in flight than may be
 pub few-fly : (s : State) → wellFormed s ≡ true → length (s .flight) ≤ flightMost

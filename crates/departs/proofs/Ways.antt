@@ -6,55 +6,32 @@ use mathlib.Core.Path.{_≡_, refl, ap, _∙_}
 use mathlib.Core.Logic.{_⊎_, inl, inr}
 use mathlib.Core.Bool.{Bool, true, false, cond}
 use mathlib.Core.List.{List, []}
-use lib.Dec.{ltb, eqb}
+use lib.Dec.{eqb}
 use lib.ListN.{length, getD, set, length-set}
 use lib.Seq.{getD-set-same, getD-set-other}
 use borrow.Author.Tests.{eqb-true, eqb-false, ne-eqb}
-use Rattle.model.specs.Below.{first}
 use Rattle.model.specs.State.{State, Packet, lanes, live}
-use Rattle.model.specs.Departure.{outAt, outLink, outEnd, hasLive, hasOut, hasMark, turn, update, door}
+use Rattle.model.specs.Departure.{hasLive, hasOut, hasMark, turn, update}
 use Rattle.model.specs.Outcome.{leaves, leavesBy, onward}
-use Rattle.model.proofs.Departure.{update-out}
-use Rattle.model.proofs.Below.{look, any-here, any-found, first-found}
+use Rattle.model.proofs.Departure.{door-out, update-out}
+use Rattle.model.proofs.Below.{look}
 use Rattle.arrays.specs.declared.Tally.{Tally}
-use Rattle.arrays.specs.View.{used, netOf, countsOf, endsSeen}
+use Rattle.arrays.specs.View.{used, netOf, countsOf, endsSeen, wayOut}
 use Rattle.turning.specs.Turned.{Turned}
 use Rattle.arrays.proofs.Below.{used-in, used-is, used-out}
 use Rattle.departs.specs.Steps.{stateWith}
-use Rattle.arrays.proofs.Searches.{first-by-links, first-hit}
 
 -- ---- a node has a way out exactly if the search finds one
-module _ (s : State) (v : ℕ) where
-  abbrev found : ℕ
-  found = first (outAt s v) 0 (lanes s)
+module _ (s : State) (v x : ℕ) (q : x ≡ wayOut s v) where
+  pub has-way : x < lanes s → hasOut s v ≡ true
+  has-way h = elim (look (hasOut s v)) [ inl e ↦ e | inr e ↦ absurd (omega (arith, rw e at q)) ]
 
-  pub way-in : hasOut s v ≡ true → found < lanes s
-  unfolding hasOut
-  way-in e =
-      let f = any-found (outAt s v) (lanes s) e in
-      omega (arith, first-found (outAt s v) (lanes s) 0 (f .0) (omega arith) (omega (arith, f .1)) (f .2) .0)
-
-  pub has-way : found < lanes s → hasOut s v ≡ true
-  unfolding hasOut
-  has-way h = any-here (outAt s v) (lanes s) found h (first-hit (outAt s v) (lanes s) 0 (omega arith))
-
-  pub no-way : lanes s ≤ found → hasOut s v ≡ false
-  no-way h = elim (look (hasOut s v)) [ inl e ↦ absurd (omega (arith, way-in e)) | inr e ↦ e ]
-
-  by-links : found
-      ≡ cond (ltb (first (outLink s v) 0 (s .net .links)) (0 + s .net .links)) (outEnd s v (first (outLink s v) 0 (s .net .links))) (2 * (0 + s .net .links))
-  by-links = first-by-links (outAt s v) (s .net .links) 0
-
-  way-door : found < lanes s → found ≡ door s v
-  unfolding door
-  way-door h = elim (look (ltb (first (outLink s v) 0 (s .net .links)) (0 + s .net .links))) [
-    | inl e ↦ by-links ∙ rw e
-    | inr e ↦ absurd (omega (arith, rw e at by-links))
-  ]
+  pub no-way : lanes s ≤ x → hasOut s v ≡ false
+  no-way h = elim (look (hasOut s v)) [ inl e ↦ absurd (omega (arith, rw e at q, door-out s v e .0)) | inr e ↦ e ]
 
 -- by the way out that was found
-pub leaves-by : {s t : State} (v x n : ℕ) → s ≡ t → hasOut s v ≡ true → x ≡ first (outAt s v) 0 (lanes s) → leaves s x n ≡ leavesBy t v n
-leaves-by {s} v x n e o q = ap (λ y. leaves s y n) (q ∙ way-door s v (way-in s v o)) ∙ ap (λ r. leavesBy r v n) e
+pub leaves-by : {s t : State} (v x n : ℕ) → s ≡ t → hasOut s v ≡ true → x ≡ wayOut s v → leaves s x n ≡ leavesBy t v n
+leaves-by {s} v x n e o q = ap (λ y. leaves s y n) (rw o at q) ∙ ap (λ r. leavesBy r v n) e
 
 -- ---- a node turns
 pub turns-kept : (turns turns′ : List ℕ) (v t n : ℕ) → turns′ ≡ set turns v t → length turns ≡ n → length turns′ ≡ n
@@ -98,16 +75,17 @@ turned-out node live out local mark links v w e = rw (w .out) e
 -- and so the search finds one
 pub turned-below : (node : List ℕ) (live out local mark : List Bool) (links v : ℕ) {out′ local′ mark′ : List Bool} {r : ℕ}
     → Turned (endsSeen links node live out local mark) v out′ local′ mark′ → hasOut (turn (endsSeen links node live out local mark) v) v ≡ true
-    → r ≡ first (outAt (endsSeen links node live out′ [] []) v) 0 (2 * links) → r < 2 * links
+    → r ≡ wayOut (endsSeen links node live out′ [] []) v → r < 2 * links
 unfolding hasOut
 turned-below node live out local mark links v {out′} w e q =
-    omega (arith, q, way-in (endsSeen links node live out′ [] []) v (turned-out node live out local mark links v w e))
+    let o : hasOut (endsSeen links node live out′ [] []) v ≡ true = turned-out node live out local mark links v w e in
+    omega (arith, rw o at q, door-out (endsSeen links node live out′ [] []) v o .0)
 
 -- ---- an update, and out
-pub onward-by : (s : State) (v x n : ℕ) → x ≡ first (outAt s v) 0 (lanes s) → x < lanes s → leaves s x n ≡ onward s v n
+pub onward-by : (s : State) (v x n : ℕ) → x ≡ wayOut s v → x < lanes s → leaves s x n ≡ onward s v n
 unfolding onward update
 onward-by s v x n e h =
-    let o : hasOut s v ≡ true = has-way s v (rw e at h) in
+    let o : hasOut s v ≡ true = has-way s v x e h in
     rw o (leaves-by {s = s} {t = s} v x n refl o e)
 
 -- where there is no way out, by a turn

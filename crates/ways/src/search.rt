@@ -3,13 +3,13 @@ use arrays::BLOCK;
 ghost use mathlib.Core.Path.{_≡_};
 ghost use mathlib.Core.Bool.{false, _&&_};
 ghost use mathlib.Core.List.{[]};
-ghost use Prim.Native.Nat.{_+_, _-_, _*_, _≤_, _<_};
+ghost use Prim.Native.Nat.{_+_, _-_, _*_, _/_, _≤_, _<_};
 ghost use lib.Dec.{eqb};
 ghost use lib.ListN.{getD};
 ghost use Rattle.model.specs.Limits.{linksMost, endsMost};
 ghost use Rattle.model.specs.Below.{any, first};
-ghost use Rattle.model.specs.Departure.{outAt, hasLive};
-ghost use Rattle.arrays.specs.View.{endsSeen};
+ghost use Rattle.model.specs.Departure.{outLink, hasLive};
+ghost use Rattle.arrays.specs.View.{endsSeen, wayOut};
 
 // Whether some end of the block is Out and at the node.
 fn out_block<'a>(
@@ -52,7 +52,24 @@ fn passed<'a>(
     }
 }
 
-// The first live Out end of the node from a link on, or the number of ends.
+// Whether the end is at the node, is Out, and has its link.
+fn out_at<'a>(
+    node: &'a [u16; model::ENDS],
+    live: &'a [bool; model::LINKS],
+    out: &'a [bool; model::ENDS],
+    v: u16,
+    x: usize,
+) -> bool
+    requires { ⌜ x < endsMost ⌝ }
+    ensures { λ r. ⌜ r ≡ (eqb (getD (now (node .entry)) x 0) v && getD (now (live .entry)) (x / 2) false && getD (now (out .entry)) x false) ⌝ }
+{
+    if node[x] != v {
+        return false;
+    }
+    live[x / 2] & out[x]
+}
+
+// The first live link from one on whose end at the node is Out, or the number of links.
 fn lowest<'a>(
     node: &'a [u16; model::ENDS],
     live: &'a [bool; model::LINKS],
@@ -62,24 +79,21 @@ fn lowest<'a>(
     from: usize,
 ) -> usize
     requires { ⌜ (links ≤ linksMost) × (from ≤ links) ⌝ }
-    ensures { λ r. ⌜ r ≡ first (outAt (endsSeen links (now (node .entry)) (now (live .entry)) (now (out .entry)) [] []) v) (2 * from) (2 * links - 2 * from) ⌝ }
+    ensures { λ r. ⌜ r ≡ first (outLink (endsSeen links (now (node .entry)) (now (live .entry)) (now (out .entry)) [] []) v) from (links - from) ⌝ }
 {
     let mut l = from;
     loop {
         if links <= l {
-            break 2 * links;
+            break links;
         }
-        if (node[2 * l] == v) & live[l] & out[2 * l] {
-            break 2 * l;
-        }
-        if (node[2 * l + 1] == v) & live[l] & out[2 * l + 1] {
-            break 2 * l + 1;
+        if out_at(node, live, out, v, 2 * l) || out_at(node, live, out, v, 2 * l + 1) {
+            break l;
         }
         l += 1;
     }
 }
 
-// The first live Out end of the node, or the number of ends.
+// The end at which a packet leaves the node, or the number of ends where no link leads out: over all links.
 pub(crate) fn way_out<'a>(
     node: &'a [u16; model::ENDS],
     live: &'a [bool; model::LINKS],
@@ -88,10 +102,17 @@ pub(crate) fn way_out<'a>(
     v: u16,
 ) -> usize
     requires { ⌜ links ≤ linksMost ⌝ }
-    ensures { λ r. ⌜ r ≡ first (outAt (endsSeen links (now (node .entry)) (now (live .entry)) (now (out .entry)) [] []) v) 0 (2 * links) ⌝ }
+    ensures { λ r. ⌜ r ≡ wayOut (endsSeen links (now (node .entry)) (now (live .entry)) (now (out .entry)) [] []) v ⌝ }
 {
     let from = passed(node, out, links, v);
-    lowest(node, live, out, links, v, from)
+    let l = lowest(node, live, out, links, v, from);
+    if links <= l {
+        return 2 * links;
+    }
+    if out_at(node, live, out, v, 2 * l) {
+        return 2 * l;
+    }
+    2 * l + 1
 }
 
 // Whether the node has a live end.

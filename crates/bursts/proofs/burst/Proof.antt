@@ -1,10 +1,10 @@
 -- The check once, the chains, the packets spread over slots, the calls on copies, the packets gathered. Assumes nothing.
-use Prim.Native.Nat.{_≤_}
+use Prim.Native.Nat.{ℕ, _+_, _*_, _≤_, _<_}
 use native.Mathlib.Omega.{arith}
 use mathlib.Core.Path.{_≡_, refl, sym, ap, _∙_, subst}
 use mathlib.Core.Bool.{true, false, not}
 use mathlib.Core.List.{List}
-use lib.ListN.{length, getD-replicate}
+use lib.ListN.{length, getD, getD-replicate}
 use denote.Ref.{now}
 use borrow.Author.Needs.{needs}
 use borrow.Author.Tests.{not-true, not-false}
@@ -18,7 +18,8 @@ use Rattle.arrays.specs.Flight.{packets, Slots}
 use Rattle.arrays.proofs.Below.{length-tab}
 use Rattle.queues.specs.Queue.{Queued}
 use Rattle.departs.specs.Steps.{stateWith, Whole, Sound}
-use Rattle.departs.proofs.Sounds.{sound-if}
+use Rattle.ways.proofs.Chains.{chain-of}
+use Rattle.departs.proofs.Sounds.{sound-if, joins-two}
 use Rattle.network.specs.declared.record.Network.{Network}
 use Rattle.network.specs.View.{view, tallyOf}
 use Rattle.notes.specs.Bursts.{calls}
@@ -46,6 +47,10 @@ sound : (n : Network) → wellFormed (view n) ≡ true → Sound (n .node) (n .l
 sound n e =
     sound-if (n .node) (n .live) (n .out) (n .local) (n .remote) (n .mark) (n .turns) (n .nodes) (n .destination) (n .links) (packets (n .number) (n .lane) (n .bit) (n .flying)) (tallyOf n)
     (length-tab (packetAt (n .number) (n .lane) (n .bit)) (n .flying)) e
+
+-- no link joins a node to itself
+two : (n : Network) → wellFormed (view n) ≡ true → (l : ℕ) → l < n .links → getD (n .node) (2 * l) 0 ≡ getD (n .node) (2 * l + 1) 0 → ⊥
+two n e = joins-two (n .node) (n .live) (n .out) (n .local) (n .remote) (n .mark) (n .turns) (n .nodes) (n .destination) (n .links) (packets (n .number) (n .lane) (n .bit) (n .flying)) (tallyOf n) e
 
 shortest-requires : tie.Need-shortest-requires
 shortest-requires c κs = search needs
@@ -125,7 +130,7 @@ run-requires c κs =
       ap wellFormed seen ∙ good,
       ap (λ (s : State). length (s .flight)) seen ∙ length-tab (packetAt (n .number) (n .lane) (n .bit)) (n .flying) ∙ sym (ap (λ (t : Tally). t .flying) t),
       whole (c .before .before .before .before .before .before .before .before .before .before .before .before .before .before .before .before .before .before .before .before .before .before .before .before .before .before .before .before .before .before .before .before .before .before .before .before .before .before .before .before .before .before .before .before .before .before .before .before .before .before .before .before),
-      λ e. c .before .before .before .before .before .before .before .before .before .before .before .before .before .before .before .before .before .before .before .before .before .before .before .before .before .before .before .before .before .before .before .before .before .before .before .before .before .before .before .before .thread .ensures,
+      λ e. chain-of (n .links) (n .node) _ _ (c .before .before .before .before .before .before .before .before .before .before .before .before .before .before .before .before .before .before .before .before .before .before .before .before .before .before .before .before .before .before .before .before .before .before .before .before .before .before .before .before .thread .ensures) (two n good),
       c .before .before .before .before .before .before .before .before .before .before .before .before .before .before .before .before .before .before .before .before .before .before .before .before .spread .ensures .2,
       subst (λ k. Queued (m .1 .1 .1 .1 .0) (q .1 .1 .0) (q .1 .1 .1 .0) (q .1 .1 .1 .1 .0) k) (sym (ap (λ (t : Tally). t .flying) t)) (c .before .before .before .before .before .before .before .before .before .before .before .before .before .before .before .before .before .before .before .thread-lanes .ensures .0),
       z .first,

@@ -9,7 +9,7 @@ use borrow.Author.Needs.{needs}
 use borrow.Author.Tests.{not-true, not-false}
 use Rattle.model.specs.declared.Went.the-variants as went
 use Rattle.model.specs.State.{Packet, State}
-use Rattle.model.specs.Departure.{hasLive, hasOut}
+use Rattle.model.specs.Departure.{hasLive, hasOut, door}
 use Rattle.model.specs.Outcome.{counted, gives, onward}
 use Rattle.arrays.specs.declared.Tally.{Tally}
 use Rattle.arrays.specs.View.{endsSeen}
@@ -126,7 +126,7 @@ counted-requires-3 : tie.Need-counted-requires-3
 counted-requires-3 c κs = (c .before .before .before .before .before .before .before .before .pre .0 .fair (c .before .before .before .before .before .before .before .before .pre .1), omega arith, omega arith, omega arith, omega arith)
 
 turned-way-requires : tie.Need-turned-way-requires
-unfolding hasLive hasOut
+unfolding hasLive hasOut door
 turned-way-requires c κs =
     let a = c .before .before .before .before .before .before .before .before .before .before .before .before .before .args in (
       c .before .before .before .before .before .before .before .before .before .before .before .before .before .pre .0 .links-most,
@@ -135,7 +135,7 @@ turned-way-requires c κs =
       omega (arith, c .before .before .before .before .before .before .before .before .before .before .before .before .before .pre .0 .turned (a .v) (c .before .before .before .before .before .before .before .before .before .before .before .before .if1 .left), c .before .before .before .before .before .before .before .before .before .before .before .before .before .pre .1),
       turn-finds (ends (c .before .before .before .before .before .before .before .before .before .before .before .before .before)) (a .v)
           (λ x h m. used-in (a .links) false (now (a .live)) (x / 2) (omega arith) ∙ c .before .before .before .before .before .before .before .before .before .before .before .before .before .pre .0 .marks x h (sym (used-in (2 * a .links) false (now (a .mark)) x h) ∙ m))
-          (sym (c .before .before .before .before .before .before .before .held .ensures) ∙ not-false _ (c .before .before .before .before .before .before .if4 .left)) (no-way (ends (c .before .before .before .before .before .before .before .before .before .before .before .before .before)) (a .v) (omega (arith, c .before .before .before .before .before .before .before .before .before .way .ensures, c .before .before .before .before .before .before .before .before .if3 .taken))),
+          (sym (c .before .before .before .before .before .before .before .held .ensures) ∙ not-false _ (c .before .before .before .before .before .before .if4 .left)) (no-way (ends (c .before .before .before .before .before .before .before .before .before .before .before .before .before)) (a .v) _ (c .before .before .before .before .before .before .before .before .before .way .ensures) (c .before .before .before .before .before .before .before .before .if3 .taken)),
       c .before .before .before .before .before .before .before .before .before .before .before .before .before .pre .2,
       c .before .before .before .before .before .before .before .before .before .before .before .before .before .pre .3,
     )
@@ -144,14 +144,14 @@ done-requires-3 : tie.Need-done-requires-3
 done-requires-3 c κs = search needs
 
 returns-5 : tie.Need-returns-5
-unfolding hasLive hasOut
+unfolding hasLive hasOut door
 returns-5 c =
     let a = c .before .before .before .before .before .before .before .before .before .before .before .before .before .before .before .args in
     let t = c .before .before .before .before .before .before .counted3 .result in (
       λ remote flight many formed.
           done-leaves (now (a .node)) (now (a .live)) _ _ remote _ _ (a .nodes) (a .destination) (a .links) flight (c .done3 .ensures) (c .before .turned-way .ensures .1)
           ∙ c .before .turned-way .ensures .0 remote (a .destination) flight t (a .tally .admitted)
-          ∙ onward-turned (seen (c .before .before .before .before .before .before .before .before .before .before .before .before .before .before .before) remote flight t) (a .v) (a .tally .admitted) (no-way (seen (c .before .before .before .before .before .before .before .before .before .before .before .before .before .before .before) remote flight t) (a .v) (omega (arith, c .before .before .before .before .before .before .before .before .before .before .before .way .ensures, c .before .before .before .before .before .before .before .before .before .before .if3 .taken)))
+          ∙ onward-turned (seen (c .before .before .before .before .before .before .before .before .before .before .before .before .before .before .before) remote flight t) (a .v) (a .tally .admitted) (no-way (seen (c .before .before .before .before .before .before .before .before .before .before .before .before .before .before .before) remote flight t) (a .v) _ (c .before .before .before .before .before .before .before .before .before .before .before .way .ensures) (c .before .before .before .before .before .before .before .before .before .before .if3 .taken))
           ∙ ap (λ (s : State). onward s (a .v) (a .tally .admitted)) (counts (c .before .before .before .before .before .before .before .before .before .before .before .before .before .before .before) remote flight (a .tally .flying + 1) 0 0 (c .before .before .before .before .before .before .counted3 .ensures))
           ∙ send-goes (seen (c .before .before .before .before .before .before .before .before .before .before .before .before .before .before .before) remote flight (a .tally)) (a .v) formed (c .before .before .before .before .before .before .before .before .before .before .before .before .before .before .before .pre .1) (c .before .before .before .before .before .before .before .before .before .before .before .before .before .before .if1 .left) (c .before .before .before .before .before .before .before .before .before .before .before .before .before .if2 .left) (sym (c .before .before .before .before .before .before .before .before .before .held .ensures) ∙ not-false _ (c .before .before .before .before .before .before .before .before .if4 .left)) (omega (arith, many, c .before .before .before .before .before .before .before .if5 .left)),
       λ flight many. leaves-long _ flight (c .done3 .ensures) (flying-is (c .before .before .before .before .before .before .counted3 .ensures) ∙ ap (λ n. n + 1) (sym many)),
@@ -163,12 +163,12 @@ bare-requires-3 : tie.Need-bare-requires-3
 bare-requires-3 c κs = search needs
 
 returns-6 : tie.Need-returns-6
-unfolding hasOut
+unfolding hasOut door
 returns-6 c =
     let a = c .before .before .before .before .before .before .before .args in (
       λ remote flight many formed.
           bare-stays (now (a .node)) (now (a .live)) (now (a .out)) (now (a .local)) remote (now (a .mark)) (now (a .turns)) (a .nodes) (a .destination) (a .links) flight (c .bare3 .ensures)
-          ∙ send-full (seen (c .before .before .before .before .before .before .before) remote flight (a .tally)) (a .v) formed (c .before .before .before .before .before .before .before .pre .1) (c .before .before .before .before .before .before .if1 .left) (c .before .before .before .before .before .if2 .left) (out-live _ (a .v) (has-way (seen (c .before .before .before .before .before .before .before) remote flight (a .tally)) (a .v) (omega (arith, c .before .before .before .way .ensures, c .before .before .if3 .left)))) (omega (arith, many, c .before .if6 .taken)),
+          ∙ send-full (seen (c .before .before .before .before .before .before .before) remote flight (a .tally)) (a .v) formed (c .before .before .before .before .before .before .before .pre .1) (c .before .before .before .before .before .before .if1 .left) (c .before .before .before .before .before .if2 .left) (out-live _ (a .v) (has-way (seen (c .before .before .before .before .before .before .before) remote flight (a .tally)) (a .v) _ (c .before .before .before .way .ensures) (c .before .before .if3 .left))) (omega (arith, many, c .before .if6 .taken)),
       λ flight many. stays-long (now (a .local)) flight (c .bare3 .ensures) refl many,
       c .before .before .before .before .before .before .before .pre .2,
       λ n. still (c .bare3 .ensures) (now (a .out)) (now (a .local)) (now (a .mark)) (now (a .turns)),
@@ -184,7 +184,7 @@ done-requires-4 : tie.Need-done-requires-4
 done-requires-4 c κs = search needs
 
 returns-7 : tie.Need-returns-7
-unfolding hasOut
+unfolding hasOut door
 returns-7 c =
     let a = c .before .before .before .before .before .before .before .before .args in
     let t = c .before .counted4 .result in (
@@ -192,7 +192,7 @@ returns-7 c =
           done-leaves (now (a .node)) (now (a .live)) (now (a .out)) (now (a .local)) remote (now (a .mark)) (now (a .turns)) (a .nodes) (a .destination) (a .links) flight (c .done4 .ensures) (c .before .before .before .if3 .left)
           ∙ onward-by (seen (c .before .before .before .before .before .before .before .before) remote flight t) (a .v) _ (a .tally .admitted) (c .before .before .before .before .way .ensures) (c .before .before .before .if3 .left)
           ∙ ap (λ (s : State). onward s (a .v) (a .tally .admitted)) (counts (c .before .before .before .before .before .before .before .before) remote flight (a .tally .flying + 1) 0 0 (c .before .counted4 .ensures))
-          ∙ send-goes (seen (c .before .before .before .before .before .before .before .before) remote flight (a .tally)) (a .v) formed (c .before .before .before .before .before .before .before .before .pre .1) (c .before .before .before .before .before .before .before .if1 .left) (c .before .before .before .before .before .before .if2 .left) (out-live _ (a .v) (has-way (seen (c .before .before .before .before .before .before .before .before) remote flight (a .tally)) (a .v) (omega (arith, c .before .before .before .before .way .ensures, c .before .before .before .if3 .left)))) (omega (arith, many, c .before .before .if6 .left)),
+          ∙ send-goes (seen (c .before .before .before .before .before .before .before .before) remote flight (a .tally)) (a .v) formed (c .before .before .before .before .before .before .before .before .pre .1) (c .before .before .before .before .before .before .before .if1 .left) (c .before .before .before .before .before .before .if2 .left) (out-live _ (a .v) (has-way (seen (c .before .before .before .before .before .before .before .before) remote flight (a .tally)) (a .v) _ (c .before .before .before .before .way .ensures) (c .before .before .before .if3 .left))) (omega (arith, many, c .before .before .if6 .left)),
       λ flight many. leaves-long (now (a .local)) flight (c .done4 .ensures) (flying-is (c .before .counted4 .ensures) ∙ ap (λ n. n + 1) (sym many)),
       c .before .before .before .before .before .before .before .before .pre .2,
       λ n. absurd (n (answer-is (c .done4 .ensures))),

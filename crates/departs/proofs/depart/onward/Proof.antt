@@ -7,7 +7,7 @@ use mathlib.Core.List.{List}
 use denote.Ref.{now}
 use borrow.Author.Needs.{needs}
 use Rattle.model.specs.State.{Packet, State}
-use Rattle.model.specs.Departure.{hasOut}
+use Rattle.model.specs.Departure.{hasOut, door}
 use Rattle.arrays.specs.declared.Tally.{Tally}
 use Rattle.arrays.specs.View.{endsSeen}
 use Rattle.arrays.proofs.Below.{used-in}
@@ -32,7 +32,7 @@ mul-if1 : tie.Need-mul-if1
 mul-if1 c = search needs
 
 turned-way-requires : tie.Need-turned-way-requires
-unfolding hasOut
+unfolding hasOut door
 turned-way-requires c κs =
     let a = c .before .before .before .before .before .before .before .args in (
       c .before .before .before .before .before .before .before .pre .0,
@@ -41,23 +41,24 @@ turned-way-requires c κs =
       c .before .before .before .before .before .before .before .pre .3,
       turn-finds (ends (c .before .before .before .before .before .before .before)) (a .v)
           (λ x h m. used-in (a .links) false (now (a .live)) (x / 2) (omega arith) ∙ c .before .before .before .before .before .before .before .pre .7 x h (sym (used-in (2 * a .links) false (now (a .mark)) x h) ∙ m))
-          (c .before .before .before .before .before .before .before .pre .4) (no-way (ends (c .before .before .before .before .before .before .before)) (a .v) (omega (arith, c .before .before .before .before .before .way .ensures, c .before .before .before .before .if1 .taken))),
+          (c .before .before .before .before .before .before .before .pre .4) (no-way (ends (c .before .before .before .before .before .before .before)) (a .v) _ (c .before .before .before .before .before .way .ensures) (c .before .before .before .before .if1 .taken)),
       c .before .before .before .before .before .before .before .pre .5,
       c .before .before .before .before .before .before .before .pre .6,
     )
 
 returns : tie.Need-returns
-unfolding hasOut
+unfolding hasOut door
 returns c =
     let a = c .before .before .before .before .before .before .before .before .args in (
       λ remote destination flight t n.
           c .turned-way .ensures .0 remote destination flight t n
-          ∙ onward-turned (seen (c .before .before .before .before .before .before .before .before) remote destination flight t) (a .v) n (no-way (seen (c .before .before .before .before .before .before .before .before) remote destination flight t) (a .v) (omega (arith, c .before .before .before .before .before .before .way .ensures, c .before .before .before .before .before .if1 .taken))),
+          ∙ onward-turned (seen (c .before .before .before .before .before .before .before .before) remote destination flight t) (a .v) n (no-way (seen (c .before .before .before .before .before .before .before .before) remote destination flight t) (a .v) _ (c .before .before .before .before .before .before .way .ensures) (c .before .before .before .before .before .if1 .taken)),
       c .turned-way .ensures .1,
       c .turned-way .ensures .2,
     )
 
 returns-2 : tie.Need-returns-2
+unfolding hasOut door
 returns-2 c =
     let a = c .before .before .before .args in (
       λ remote destination flight t n. onward-by (seen (c .before .before .before) remote destination flight t) (a .v) _ n (c .before .way .ensures) (c .if1 .left),

@@ -3,7 +3,7 @@ use Prim.Native.Nat.{_≤_}
 use native.Mathlib.Omega.{arith}
 use lib.ListN.{length}
 use denote.Ref.{now}
-use Rattle.model.specs.Departure.{hasOut, turn}
+use Rattle.model.specs.Departure.{hasOut, turn, door}
 use Rattle.departs.proofs.Ways.{turn-is, turned-below, turned-out, turns-kept, leaves-by}
 use Rattle.departs.proofs.depart.turned_way.Statement.{statement}
 use Rattle.departs.proofs.depart.turned_way.Tie as tie
@@ -15,7 +15,7 @@ way-requires : tie.Need-way-requires
 way-requires c κs = (c .before .before .before .before .before .before .pre .0, omega arith, λ e. c .before .before .before .before .before .before .pre .6 e (c .before .before .before .before .before .before .args .v) (omega arith))
 
 returns : tie.Need-returns
-unfolding hasOut
+unfolding hasOut door
 returns c =
     let a = c .before .before .before .before .before .before .before .args in
     let long : a .nodes ≤ length (now (a .turns)) = omega (arith, c .before .before .before .before .before .before .before .pre .1, c .before .before .before .before .before .before .before .pre .5 .turns-long) in

@@ -1,100 +1,63 @@
--- Nothing is found before the end that is looked at. Assumes nothing.
-use Prim.Native.Nat.{_-_, _*_}
-use native.Mathlib.Omega.{arith}
+-- Over all links, or along the chain and then the link's end. Assumes nothing.
+use mathlib.Core.Path.{_∙_}
+use mathlib.Core.List.{[]}
 use denote.Ref.{now}
-use borrow.Author.Tests.{not-false}
-use Rattle.ways.proofs.Chains.{Walked, walked-start, walked-next, walked-on, walked-found, walked-end}
+use Rattle.model.specs.State.{State}
+use Rattle.arrays.specs.View.{endsSeen}
+use Rattle.ways.proofs.Chains.{leads-by}
+use Rattle.ways.proofs.Doors.{leads, way-found, way-none}
 use borrow.Author.Needs.{needs}
+use borrow.Author.Tests.{not-false}
 use Rattle.ways.proofs.chain.way.Statement.{statement}
 use Rattle.ways.proofs.chain.way.Tie as tie
 
-abbrev Inv-loop : tie.InvT-loop
-Inv-loop node heads next chained live out links v ends x₀ x = Walked links node live out v x
+abbrev seen : tie.Start → State
+seen c = let a = c .args in endsSeen (a .links) (now (a .node)) (now (a .live)) (now (a .out)) [] []
 
-abbrev μ-loop : tie.MeasureT-loop
-μ-loop node heads next chained live out links v ends x₀ x = 2 * links - x
-
-cast-way-out : tie.Need-cast-way-out Inv-loop μ-loop
+cast-way-out : tie.Need-cast-way-out
 cast-way-out c = search needs
 
-way-out-requires : tie.Need-way-out-requires Inv-loop μ-loop
+way-out-requires : tie.Need-way-out-requires
 way-out-requires c κs = search needs
 
-returns : tie.Need-returns Inv-loop μ-loop
-returns c = c .way-out .ensures
+returns : tie.Need-returns
+returns c = search needs
 
-mul-ends : tie.Need-mul-ends Inv-loop μ-loop
-mul-ends c = search needs
+along-requires : tie.Need-along-requires
+along-requires c κs = (c .before .pre .0, c .before .pre .1, c .before .pre .2 (not-false _ (c .if1 .left)))
 
-mul-wide : tie.Need-mul-wide Inv-loop μ-loop
-mul-wide c = search needs
+mul-result : tie.Need-mul-result
+mul-result c = search needs
 
-element-copy-out-wide : tie.Need-element-copy-out-wide Inv-loop μ-loop
-element-copy-out-wide c = search needs
+returns-2 : tie.Need-returns-2
+returns-2 c = let s = c .before .before .before in way-none (seen s) (s .args .v) _ (c .before .along .ensures) (c .if2 .taken)
 
-wide-requires : tie.Need-wide-requires Inv-loop μ-loop
-wide-requires c κs = search needs
+cast-end-at : tie.Need-cast-end-at
+cast-end-at c = search needs
 
-loop-holds : tie.Need-loop-holds Inv-loop μ-loop
-loop-holds c =
-    let a = c .before .before .before .args in
-    rw (c .wide .ensures) (walked-start (a .links) (now (a .node)) (now (a .live)) (now (a .out)) (a .v) (now (a .heads)) (now (a .next)) (c .before .before .before .pre .2 (not-false _ (c .before .before .if1 .left))))
+end-at-requires : tie.Need-end-at-requires
+end-at-requires c κs = search needs
 
-element-copy-out-if3 : tie.Need-element-copy-out-if3 Inv-loop μ-loop
-element-copy-out-if3 c = search needs
-
-element-copy-out-if3-2 : tie.Need-element-copy-out-if3-2 Inv-loop μ-loop
-element-copy-out-if3-2 c = search needs
-
-mul-wide-2 : tie.Need-mul-wide-2 Inv-loop μ-loop
-mul-wide-2 c = search needs
-
-element-copy-out-wide-2 : tie.Need-element-copy-out-wide-2 Inv-loop μ-loop
-element-copy-out-wide-2 c = search needs
-
-wide-requires-2 : tie.Need-wide-requires-2 Inv-loop μ-loop
-wide-requires-2 c κs = search needs
-
-loop-less : tie.Need-loop-less Inv-loop μ-loop
-loop-less c =
-    let a = c .before .before .before .before .before .before .before .before .before .before .args in
-    omega (arith, c .wide2 .ensures, walked-on (a .links) (now (a .node)) (now (a .live)) (now (a .out)) (a .v) (now (a .heads)) (now (a .next)) (c .before .before .before .before .before .before .before .before .before .before .pre .2 (not-false _ (c .before .before .before .before .before .before .before .before .before .if1 .left))) (c .before .before .before .before .before .before .loop .x) (c .before .before .before .before .before .before .loop .inv) (omega arith))
-
-loop-again : tie.Need-loop-again Inv-loop μ-loop
-loop-again c =
-    let a = c .before .before .before .before .before .before .before .before .before .before .args in
-    rw (c .wide2 .ensures) (walked-next (a .links) (now (a .node)) (now (a .live)) (now (a .out)) (a .v) (now (a .heads)) (now (a .next)) (c .before .before .before .before .before .before .before .before .before .before .pre .2 (not-false _ (c .before .before .before .before .before .before .before .before .before .if1 .left))) (c .before .before .before .before .before .before .loop .x) (c .before .before .before .before .before .before .loop .inv) (omega arith) (c .before .before .if3 .left))
-
-returns-2 : tie.Need-returns-2 Inv-loop μ-loop
-returns-2 c =
-    let a = c .before .before .before .before .before .args in
-    walked-end (a .links) (now (a .node)) (now (a .live)) (now (a .out)) (a .v) (c .before .loop .x) (c .before .loop .inv) (c .if2 .taken)
-
-returns-3 : tie.Need-returns-3 Inv-loop μ-loop
+returns-3 : tie.Need-returns-3
 returns-3 c =
-    let a = c .before .before .before .before .before .before .before .before .args in
-    walked-found (a .links) (now (a .node)) (now (a .live)) (now (a .out)) (a .v) (now (a .heads)) (now (a .next)) (c .before .before .before .before .before .before .before .before .pre .2 (not-false _ (c .before .before .before .before .before .before .before .if1 .left))) (c .before .before .before .before .loop .x) (c .before .before .before .before .loop .inv) (omega arith) (c .if3 .taken)
+    let f = c .before .before in
+    let s = f .before .before in
+    let a = s .args in
+    c .end-at .ensures .0
+    ∙ leads-by (a .links) (now (a .node)) (now (a .live)) (now (a .out)) (a .v) (now (a .heads)) (now (a .next)) (s .pre .2 (not-false _ (f .before .if1 .left)))
+    (f .along .result) (c .before .if2 .left) (leads (seen s) (a .v) _ (f .along .ensures) (c .before .if2 .left))
+    ∙ way-found (seen s) (a .v) _ (f .along .ensures) (c .before .if2 .left)
 
 pub way-spec : {M : Type 1} → statement M
 way-spec =
     tie.close
     (tie.spec
-    Inv-loop
-    μ-loop
     cast-way-out
     way-out-requires
     returns
-    mul-ends
-    mul-wide
-    element-copy-out-wide
-    wide-requires
-    loop-holds
-    element-copy-out-if3
-    element-copy-out-if3-2
-    mul-wide-2
-    element-copy-out-wide-2
-    wide-requires-2
-    loop-less
-    loop-again
+    along-requires
+    mul-result
     returns-2
+    cast-end-at
+    end-at-requires
     returns-3)
