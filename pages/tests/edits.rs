@@ -2,7 +2,7 @@
 
 mod made;
 
-use made::Made;
+use made::{Made, Page};
 use pages::{checked, edits};
 
 const FILES: [(&str, &str); 3] = [
@@ -22,20 +22,15 @@ const PAGE: &str = "\
 | `two/late` | goes on | what `run the whole file` gives, one two three, four five |
 ";
 
-/// What is told of a page in the small tree.
-fn faults(page: &str) -> Vec<String> {
-    edits::faults(&Made::new(&FILES).tree, page)
-}
-
-/// Asserts what is told where one text of the page is another.
-fn told(right: &str, wrong: &str, expected: &[&str]) {
-    assert!(PAGE.contains(right), "{right}");
-    assert_eq!(faults(&PAGE.replace(right, wrong)), expected);
-}
+const SMALL: Page = Page {
+    files: &FILES,
+    text: PAGE,
+    check: edits::faults,
+};
 
 #[test]
 fn a_right_page_has_no_fault() {
-    assert_eq!(faults(PAGE), Vec::<String>::new());
+    SMALL.gives(PAGE, &[]);
 }
 
 #[test]
@@ -50,20 +45,20 @@ fn an_edit_that_is_not_there_is_told() {
         "docs/EDITS.md:8: `one/late` is not in the tree",
         "docs/EDITS.md: the edit `two/late` is in no row",
     ];
-    told("`two/late`", "`one/late`", &expected);
+    SMALL.told("`two/late`", "`one/late`", &expected);
 }
 
 #[test]
 fn an_edit_in_no_row_is_told() {
     let expected = ["docs/EDITS.md: the edit `two/early` is in no row"];
-    told("| `two/early` | stops | the sum |\n", "", &expected);
+    SMALL.told("| `two/early` | stops | the sum |\n", "", &expected);
 }
 
 #[test]
 fn an_edit_with_two_rows_is_told() {
     let row = "| `two/late` | goes on | the end |\n";
     let expected = ["docs/EDITS.md:9: the edit `two/late` has a row already"];
-    assert_eq!(faults(&format!("{PAGE}{row}")), expected);
+    SMALL.gives(&format!("{PAGE}{row}"), &expected);
 }
 
 #[test]
@@ -72,22 +67,22 @@ fn a_row_has_one_edit() {
         "docs/EDITS.md:4: not one edit in backticks",
         "docs/EDITS.md: the edit `two/early` is in no row",
     ];
-    told("`two/early`", "`two/early`, `two/late`", &expected);
-    told("`two/early`", "two/early", &expected);
+    SMALL.told("`two/early`", "`two/early`, `two/late`", &expected);
+    SMALL.told("`two/early`", "two/early", &expected);
 }
 
 #[test]
 fn an_empty_cell_is_told() {
     for full in ["| stops |", "| the sum |"] {
-        told(full, "| |", &["docs/EDITS.md:4: an empty cell"]);
+        SMALL.told(full, "| |", &["docs/EDITS.md:4: an empty cell"]);
     }
-    told("| the sum |", "|", &["docs/EDITS.md:4: 2 cells"]);
+    SMALL.told("| the sum |", "|", &["docs/EDITS.md:4: 2 cells"]);
 }
 
 #[test]
 fn a_ninth_word_is_told() {
     for last in ["five six", "five: `six seven`"] {
         let expected = ["docs/EDITS.md:8: 9 words, and 8 are the most"];
-        told("five", last, &expected);
+        SMALL.told("five", last, &expected);
     }
 }

@@ -3,7 +3,7 @@
 
 mod made;
 
-use made::Made;
+use made::Page;
 use pages::exceptions;
 
 const LIB: &str = "\
@@ -52,25 +52,23 @@ Words.
 | `one::way` | nothing else | so |
 ";
 
-/// Asserts what is told where one text of the page is another.
-fn told(right: &str, wrong: &str, expected: &[&str]) {
-    assert!(PAGE.contains(right), "{right}");
-    let made = Made::new(&FILES);
-    let page = PAGE.replacen(right, wrong, 1);
-    assert_eq!(exceptions::faults(&made.tree, &page), expected);
-}
+const SMALL: Page = Page {
+    files: &FILES,
+    text: PAGE,
+    check: exceptions::faults,
+};
 
 #[test]
 fn a_right_page_has_no_fault() {
-    told("Words.", "Other words.", &[]);
+    SMALL.told("Words.", "Other words.", &[]);
 }
 
 #[test]
 fn the_tables_are_told_apart() {
     let requires = ["docs/EXCEPTIONS.md: `one::way` requires something"];
-    told("| `one::way` | a small number |\n", "", &requires);
+    SMALL.told("| `one::way` | a small number |\n", "", &requires);
     let nothing = ["docs/EXCEPTIONS.md: `one::sent` requires nothing"];
-    told("| `one::way` |", "| `one::way`, `one::sent` |", &nothing);
+    SMALL.told("| `one::way` |", "| `one::way`, `one::sent` |", &nothing);
 }
 
 #[test]
@@ -84,15 +82,15 @@ fn a_function_that_is_not_there_is_told() {
         "sent",
     ] {
         let fault = format!("docs/EXCEPTIONS.md:9: `{wrong}` is not in the tree");
-        told("`one::sent`", &format!("`{wrong}`"), &[&fault]);
+        SMALL.told("`one::sent`", &format!("`{wrong}`"), &[&fault]);
     }
 }
 
 #[test]
 fn an_empty_cell_is_told() {
     for full in ["| nothing else |", "| so |"] {
-        told(full, "| |", &["docs/EXCEPTIONS.md:10: an empty cell"]);
+        SMALL.told(full, "| |", &["docs/EXCEPTIONS.md:10: an empty cell"]);
     }
     let bare = ["docs/EXCEPTIONS.md:10: no name in backticks"];
-    told("`one::way` | nothing else", "way | nothing else", &bare);
+    SMALL.told("`one::way` | nothing else", "way | nothing else", &bare);
 }

@@ -2,7 +2,7 @@
 
 mod made;
 
-use made::Made;
+use made::{Made, Page};
 use pages::{checked, held};
 
 const STATE: &str = "\
@@ -55,20 +55,15 @@ const PAGE: &str = "\
 | `Promises.Ends`, `Promises.Kept` | as you like | itself | none: it is what is held |
 ";
 
-/// What is told of a page in the small tree.
-fn faults(page: &str) -> Vec<String> {
-    held::faults(&Made::new(&FILES).tree, page)
-}
-
-/// Asserts what is told where one text of the page is another.
-fn told(right: &str, wrong: &str, expected: &[&str]) {
-    assert!(PAGE.contains(right), "{right}");
-    assert_eq!(faults(&PAGE.replace(right, wrong)), expected);
-}
+const SMALL: Page = Page {
+    files: &FILES,
+    text: PAGE,
+    check: held::faults,
+};
 
 #[test]
 fn a_right_page_has_no_fault() {
-    assert_eq!(faults(PAGE), Vec::<String>::new());
+    SMALL.gives(PAGE, &[]);
 }
 
 #[test]
@@ -81,28 +76,28 @@ fn no_page_is_told() {
 fn a_definition_that_is_not_there_is_told() {
     for wrong in ["State.ends", "State.send", "model/State.end", "State::end"] {
         let fault = format!("docs/HELD.md:3: `{wrong}` is not in the tree");
-        told("`State.end`", &format!("`State.end`, `{wrong}`"), &[&fault]);
+        SMALL.told("`State.end`", &format!("`State.end`, `{wrong}`"), &[&fault]);
     }
 }
 
 #[test]
 fn a_definition_in_no_row_is_told() {
     let expected = ["docs/HELD.md: the definition `State.Net` is in no row"];
-    told("`State.Net`, ", "", &expected);
+    SMALL.told("`State.Net`, ", "", &expected);
     let expected = ["docs/HELD.md: the definition `Promises.Kept` is in no row"];
-    told(", `Promises.Kept`", "", &expected);
+    SMALL.told(", `Promises.Kept`", "", &expected);
     let expected = [
         "docs/HELD.md:8: no name in backticks",
         "docs/HELD.md: the definition `State.Kind` is in no row",
     ];
-    told("`State.Kind`", "State.Kind", &expected);
+    SMALL.told("`State.Kind`", "State.Kind", &expected);
 }
 
 #[test]
 fn what_becomes_false_is_there() {
     for wrong in ["row P2", "row P", "Promises.Kept.other", "State.end"] {
         let fault = format!("docs/HELD.md:3: `{wrong}` is not in the tree");
-        told("`row P1`", &format!("`{wrong}`"), &[&fault]);
+        SMALL.told("`row P1`", &format!("`{wrong}`"), &[&fault]);
     }
 }
 
@@ -110,24 +105,24 @@ fn what_becomes_false_is_there() {
 fn an_edit_that_is_not_there_is_told() {
     for wrong in ["held/late", "model/early", "other/more", "late"] {
         let fault = format!("docs/HELD.md:3: `{wrong}` is not in the tree");
-        told("| `model/late` |", &format!("| `{wrong}` |"), &[&fault]);
+        SMALL.told("| `model/late` |", &format!("| `{wrong}` |"), &[&fault]);
     }
     let expected = ["docs/HELD.md:8: `held/gone` is not in the tree"];
-    told("none: `send`", "none: `held/gone`", &expected);
+    SMALL.told("none: `send`", "none: `held/gone`", &expected);
 }
 
 #[test]
 fn an_edit_in_no_row_is_told() {
     let expected = ["docs/HELD.md: the edit `held/early` is in no row"];
-    told("`held/early`, ", "", &expected);
-    told("| `held/early`,", "| none: `held/early`,", &expected);
+    SMALL.told("`held/early`, ", "", &expected);
+    SMALL.told("| `held/early`,", "| none: `held/early`,", &expected);
 }
 
 #[test]
 fn an_edit_or_a_reason_is_asked_for() {
     let expected = ["docs/HELD.md:9: neither an edit nor `none:` with a reason"];
-    told("none: it is what is held", "none:", &expected);
-    told("none: it is", "it is", &expected);
+    SMALL.told("none: it is what is held", "none:", &expected);
+    SMALL.told("none: it is", "it is", &expected);
 }
 
 #[test]
@@ -137,7 +132,7 @@ fn an_empty_cell_is_told() {
         "| itself |",
         "| none: it is what is held |",
     ] {
-        told(full, "| |", &["docs/HELD.md:9: an empty cell"]);
+        SMALL.told(full, "| |", &["docs/HELD.md:9: an empty cell"]);
     }
-    told("| itself |", "|", &["docs/HELD.md:9: 3 cells"]);
+    SMALL.told("| itself |", "|", &["docs/HELD.md:9: 3 cells"]);
 }

@@ -34,3 +34,23 @@ impl Drop for Made {
         let _ = fs::remove_dir_all(&self.tree.root);
     }
 }
+
+/// A page of a small tree, and the check that is made of it.
+pub struct Page {
+    pub files: &'static [(&'static str, &'static str)],
+    pub text: &'static str,
+    pub check: fn(&Tree, &str) -> Vec<String>,
+}
+
+impl Page {
+    /// Asserts what is told of a text of the page.
+    pub fn gives(&self, text: &str, expected: &[&str]) {
+        assert_eq!((self.check)(&Made::new(self.files).tree, text), expected);
+    }
+
+    /// Asserts what is told where one text of the page is another, once.
+    pub fn told(&self, right: &str, wrong: &str, expected: &[&str]) {
+        assert!(self.text.contains(right), "{right}");
+        self.gives(&self.text.replacen(right, wrong, 1), expected);
+    }
+}
