@@ -36,7 +36,7 @@ module _ (mode : Mode) where
   good_counted : (s : State) (a d l t : ℕ) → Good mode s → Good mode (counted s a d l t)
   good_counted s a d l t g = (g.0, kept_counted mode s g.0 g.1 a d l t)
 
-  good_heard : {s t : State} {x : ℕ} {p : Packet} → Oldest s x p → Heard s x p t → Good mode s → Good mode t
+  good_heard : {s : State} {x : ℕ} {p : Packet} {t : State} → Oldest s x p → Heard s x p t → Good mode s → Good mode t
   good_heard {s} {x = x} {p = p} old (told o n) g =
       (g.0, kept_news mode s g.0 g.1 x p old.rest old.first o (differ p.bit (s.ends.remote (opp x)) n))
   good_heard {s} {x = x} old (known n) g = (g.0, kept_taken mode s g.0 g.1 x)

@@ -18,11 +18,11 @@ use Rattle.model.proofs.Formed.{Flies, Formed, formed_if, if_formed, formed_coun
 use Rattle.model.proofs.Steps.{Oldest, Heard, told, known, rest, Step, refused, at_home, strands, sends, comes_home, bounces, goes_on, loses, fails}
 
 -- a heard packet is in hand
-pub heard : {s t : State} {x : ℕ} {p : Packet} → Oldest s x p → Heard s x p t → Formed 0 0 s → Formed 1 0 t
+pub heard : {s : State} {x : ℕ} {p : Packet} {t : State} → Oldest s x p → Heard s x p t → Formed 0 0 s → Formed 1 0 t
 heard {s} {x = x} old (told o n) f = formed_news (taken s x) (opp x) (formed_taken s x old.first f)
 heard {s} {x = x} old (known n) f = formed_taken s x old.first f
 
-pub same_live : {s t : State} {x : ℕ} {p : Packet} → Heard s x p t → (v : ℕ) → has_live t v ≡ has_live s v
+pub same_live : {s : State} {x : ℕ} {p : Packet} {t : State} → Heard s x p t → (v : ℕ) → has_live t v ≡ has_live s v
 unfolding has_live
 same_live h v = rw ((rest h).net, (rest h).up)
 

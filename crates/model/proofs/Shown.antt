@@ -1,11 +1,11 @@
 -- The theorems' words in the states of specs/Shown.antt, by computation. Assumes nothing.
-use Prim.Native.Nat.{ℕ, zero, suc}
+use Prim.Native.Nat.{ℕ, zero, suc, ◌<◌}
 use native.Mathlib.Omega.{arith}
 use mathlib.Core.Path.{◌≡◌, refl, sym, ◌∙◌, ap}
 use mathlib.Core.Bool.{Bool, true, false, xor, ◌&&◌, true≢false}
 use lib.Dec.{ltb, eqb}
 use mathlib.Core.List.{List, [], ◌∷◌, ◌++◌}
-use lib.ListN.{length}
+use lib.ListN.{length, get_or}
 use borrow.Author.Tests.{ltb-true, eqb-true}
 use Rattle.model.specs.Below.{any, all, first, tab}
 use Rattle.model.specs.State.{opp, State, lanes, whole}
@@ -144,7 +144,7 @@ pub writable_tells : WritableTells
 unfolding any all first tab sized sets_out holds_closed_walk first_bad_link opened open_from
 writable_tells =
     record {
-      largest_byte = λ i. elim i [ zero ↦ omega arith | suc j ↦ omega arith ];
+      largest_byte = λ i. elim i as (λ k. get_or (255 ∷ []) k 0 < 256) [ zero ↦ omega arith | suc j ↦ omega arith ];
       no_byte = λ b. omega (arith, b 0);
       largest_argument = record { header = refl; arguments = (omega arith, tt) };
       no_argument = λ w. omega (arith, w.arguments.1.0);

@@ -52,7 +52,7 @@ pub record Rest (s t : State) (x : ℕ) : Type 0 where
   pub flight : t.flight ≡ less x s.flight
   pub counts : t.counts ≡ s.counts
 
-pub rest : {s t : State} {x : ℕ} {p : Packet} → Heard s x p t → Rest s t x
+pub rest : {s : State} {x : ℕ} {p : Packet} {t : State} → Heard s x p t → Rest s t x
 unfolding news taken
 rest (told o n) = record { net = refl; up = refl; turns = refl; flight = refl; counts = refl }
 rest (known n) = record { net = refl; up = refl; turns = refl; flight = refl; counts = refl }

@@ -70,7 +70,7 @@ module _ (t : State) (v n : ℕ) (marked : Marked t) (l : has_live t v ≡ true)
   ]
 
 -- what is about to be passed on is what was heard
-about_heard : {s t : State} {x : ℕ} {p : Packet} → Oldest s x p → Heard s x p t → about s (deliver x) ≡ t
+about_heard : {s : State} {x : ℕ} {p : Packet} {t : State} → Oldest s x p → Heard s x p t → about s (deliver x) ≡ t
 unfolding about
 about_heard {s} {x = x} old (told o n) = rw (old.first, o, n)
 about_heard {s} {x = x} old (known n) = elim (look (s.ends.out (opp x))) [ inl o ↦ rw (old.first, o, n) | inr o ↦ rw (old.first, o) ]

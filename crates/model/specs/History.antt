@@ -19,8 +19,8 @@ after s (e ∷ es) = after (event s e).state es
 -- a history goes on with a run of events
 unfoldable pub history_after : {s : State} → History s → (es : List Event) → History (after s es)
 unfolding after
-history_after h [] = h
-history_after h (e ∷ es) = history_after (next h e) es
+history_after {s = s} h [] = h
+history_after {s = s} h (e ∷ es) = history_after {s = (event s e).state} (next h e) es
 
 -- the state of an accepted opening after a run of events
 pub record Ran (s : State) : Type 0 where
