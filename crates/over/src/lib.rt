@@ -1,5 +1,7 @@
 // What makes a record ill formed: a loop for each array, with no early end, over references.
 // Public for `formed` alone, which tests the limits first, so a loop may require them: docs/EXCEPTIONS.md.
+#![tactic(auto)]
+
 ghost use Rattle.std.specs.Prelude.{◌≡◌, false, not, ◌&&◌, ◌+◌, ◌*◌, ◌≤◌, ◌<◌, leb, ltb, eqb, get_or};
 ghost use Rattle.model.specs.Limits.{nodes_most, links_most, ends_most, flight_most};
 ghost use Rattle.model.specs.Below.{any};

@@ -5,13 +5,13 @@ use borrow.Author.Rules.{rules}
 use Rattle.arrays.proofs.number.other.Statement.{statement}
 use Rattle.arrays.proofs.number.other.Tie as tie
 
-add-result : tie.Need-overflow-add-result
+add-result : tie.Need-overflow_add-result
 add-result c = search rules
 
-mul-result : tie.Need-overflow-mul-result
+mul-result : tie.Need-overflow_mul-result
 mul-result c = search rules
 
-sub-result : tie.Need-overflow-sub-result
+sub-result : tie.Need-overflow_sub-result
 sub-result c = search rules
 
 returns : tie.Need-returns
