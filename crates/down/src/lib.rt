@@ -1,5 +1,7 @@
 // Marks and packets on links that are down: in whole blocks, the last of which ends with the last place.
 // Public for `formed` alone, which tests the limits first, so these may require them: docs/EXCEPTIONS.md.
+#![tactic(auto)]
+
 ghost use Rattle.std.specs.Prelude.{◌≡◌, false, not, ◌&&◌, ◌||◌, ℕ, ◌+◌, ◌*◌, ◌/◌, ◌≤◌, ◌<◌, get_or};
 ghost use Rattle.model.specs.Limits.{links_most, ends_most, flight_most};
 ghost use Rattle.model.specs.Below.{any};
