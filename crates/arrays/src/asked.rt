@@ -4,7 +4,7 @@ ghost use Rattle.std.specs.Prelude.{◌≡◌, false};
 use crate::Told;
 
 // What they tell, and the place of the oldest.
-#[derive(Drop)]
+#[derive(Clone, Copy)]
 pub struct Asked {
     pub told: Told,
     pub at: usize,

@@ -1,4 +1,6 @@
 // The arrays of a record: what they show a reader, and the numbers that stand in them.
+#![tactic(auto)]
+
 mod asked;
 pub mod kinds;
 pub mod limits;
@@ -16,7 +18,7 @@ pub const SLOTS: usize = model::FLIGHT + MOVES;
 pub const BLOCK: usize = 16;
 
 // What an event counts.
-#[derive(Drop)]
+#[derive(Clone, Copy)]
 pub struct Tally {
     pub flying: usize,
     pub events: u32,
@@ -27,7 +29,7 @@ pub struct Tally {
 }
 
 // What the packets in flight tell an event: the oldest of its lane, or how many are on its link; a send nothing.
-#[derive(Drop)]
+#[derive(Clone, Copy)]
 pub struct Told {
     pub there: bool,
     pub number: u32,

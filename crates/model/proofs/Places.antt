@@ -17,7 +17,7 @@ use Rattle.model.specs.Departure.{update, door, pass}
 use Rattle.model.specs.Outcome.{Outcome, counted, onward}
 use Rattle.model.specs.Lanes.{on_lane, less, taken}
 use Rattle.model.specs.Fail.{off, cut}
-use Rattle.model.specs.Events.{Event, send, deliver, lose, fail, event}
+use Rattle.model.specs.Events.{Event, send, deliver, lose, fail}
 use Rattle.model.specs.Opening.{opened}
 use Rattle.model.specs.History.{History, start, next}
 use Rattle.model.specs.Places.{Flying, Places, numbers, those, is_not, is_on, goes, failed_by, placed_by, placed, times, count_in_all, sent_as}

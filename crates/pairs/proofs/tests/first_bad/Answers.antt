@@ -1,6 +1,7 @@
 use Prim.Native.Nat.{◌-◌, ◌≤◌, ◌<◌}
 use native.Mathlib.Omega.{arith}
 use mathlib.Core.Path.{◌≡◌, refl, ap}
+use mathlib.Core.Bool.{not}
 use borrow.Author.Rules.{rules}
 use Rattle.model.specs.Below.{first}
 use Rattle.model.specs.Opening.{links_in, first_bad_link}

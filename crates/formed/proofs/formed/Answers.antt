@@ -1,0 +1,104 @@
+-- Limits first, then the tests of the arrays in groups; dead links are looked at only where there are some. Assumes nothing.
+use Prim.Native.Nat.{◌*◌}
+use native.Mathlib.Omega.{arith}
+use mathlib.Core.Path.{sym, ◌∙◌}
+use borrow.Author.Tests.{not-false, leb-false}
+use borrow.Author.Rules.{rules}
+use Rattle.model.proofs.Below.{or_neither, any_false}
+use Rattle.formed.proofs.WellFormed.{Within, within, limits_refused, first_refused, then_refused, Passed, passed_down, passed_live}
+use Rattle.formed.proofs.formed.Goals as goal
+
+-- what the limits give to the loops
+bounds : (c : goal.Else-not-limits_hold) → let a = c.before.before.args in Within a.nodes a.destination a.links a.tally
+bounds c =
+    let a = c.args in
+    within a.nodes a.destination a.links a.tally (sym c.limits_hold.ensures ∙ not-false _ c.if-not-limits_hold.false)
+
+-- what the first two groups of tests give
+passed : (c : goal.Else-turns_over-number_over) → let a = c.before.before.before.before.before.before.before.before.before.before.args in Passed a.node.now a.live.now a.out.now a.mark.now a.turns.now a.number.now a.lane.now a.nodes a.destination a.links a.tally
+passed c =
+    let a = c.args in
+    let w = bounds c in
+    let first = or_neither _ _ c.if-node_over-self_linked.false in
+    let link = or_neither _ _ first.0 in
+    let second = or_neither _ _ c.if-turns_over-number_over.false in
+    let count = or_neither _ _ second.0 in
+    record {
+      limits = sym c.limits_hold.ensures ∙ not-false _ c.if-not-limits_hold.false;
+      named = sym c.node_over.ensures ∙ link.0;
+      joined = sym c.self_linked.ensures ∙ link.1;
+      outs = sym c.out_marked.ensures ∙ first.1;
+      turned = sym c.turns_over.ensures ∙ count.0;
+      numbers = sym c.number_over.ensures ∙ count.1;
+      lanes = sym c.lane_over.ensures ∙ second.1;
+    }
+
+pub returns-then-not-limits_hold : goal.returns-then-not-limits_hold
+returns-then-not-limits_hold c =
+    let a = c.args in
+    limits_refused a.node.now a.live.now a.out.now a.mark.now a.turns.now a.number.now a.lane.now a.nodes a.destination a.links a.tally _ c.limits_hold.ensures c.if-not-limits_hold.true
+
+pub overflow_mul-ends : goal.overflow_mul-ends
+overflow_mul-ends c = let w = bounds (goal.at.overflow_mul-ends c).Else-not-limits_hold in omega arith
+
+pub overflow_cast-nodes : goal.overflow_cast-nodes
+overflow_cast-nodes c = let w = bounds (goal.at.overflow_cast-nodes c).Else-not-limits_hold in omega arith
+
+pub node_over-requires : goal.node_over-requires
+node_over-requires c = let w = bounds (goal.at.node_over-requires c).Else-not-limits_hold in omega arith
+
+pub self_linked-requires : goal.self_linked-requires
+self_linked-requires c = let w = bounds (goal.at.self_linked-requires c).Else-not-limits_hold in omega arith
+
+pub out_marked-requires : goal.out_marked-requires
+out_marked-requires c = let w = bounds (goal.at.out_marked-requires c).Else-not-limits_hold in omega arith
+
+pub returns-then-node_over-self_linked : goal.returns-then-node_over-self_linked
+returns-then-node_over-self_linked c =
+    let a = c.args in
+    let w = bounds (goal.at.returns-then-node_over-self_linked c).Else-not-limits_hold in
+    first_refused a.node.now a.live.now a.out.now a.mark.now a.turns.now a.number.now a.lane.now a.nodes a.destination a.links a.tally
+    _ _ _ c.node_over.ensures c.self_linked.ensures c.out_marked.ensures c.if-node_over-self_linked.true
+
+pub turns_over-requires : goal.turns_over-requires
+turns_over-requires c = let w = bounds (goal.at.turns_over-requires c).Else-not-limits_hold in omega arith
+
+pub number_over-requires : goal.number_over-requires
+number_over-requires c = let w = bounds (goal.at.number_over-requires c).Else-not-limits_hold in omega arith
+
+pub overflow_cast-ends : goal.overflow_cast-ends
+overflow_cast-ends c = let w = bounds (goal.at.overflow_cast-ends c).Else-not-limits_hold in omega arith
+
+pub lane_over-requires : goal.lane_over-requires
+lane_over-requires c = let w = bounds (goal.at.lane_over-requires c).Else-not-limits_hold in omega arith
+
+pub returns-then-turns_over-number_over : goal.returns-then-turns_over-number_over
+returns-then-turns_over-number_over c =
+    let a = c.args in
+    then_refused a.node.now a.live.now a.out.now a.mark.now a.turns.now a.number.now a.lane.now a.nodes a.destination a.links a.tally
+    _ _ _ c.turns_over.ensures c.number_over.ensures c.lane_over.ensures c.if-turns_over-number_over.true
+
+pub some_down-requires : goal.some_down-requires
+some_down-requires c = let w = bounds (goal.at.some_down-requires c).Else-not-limits_hold in omega arith
+
+pub down_marked-requires : goal.down_marked-requires
+down_marked-requires c = let w = bounds (goal.at.down_marked-requires c).Else-not-limits_hold in omega arith
+
+pub lane_down-requires : goal.lane_down-requires
+lane_down-requires c =
+    let a = c.args in
+    let w = bounds (goal.at.lane_down-requires c).Else-not-limits_hold in
+    let z = passed (goal.at.lane_down-requires c).Else-turns_over-number_over in
+    (w.flight_fits, λ i h. omega (arith, leb-false (2 * a.links) _ (any_false _ a.tally.flying i z.lanes h)))
+
+pub returns-then-some_down : goal.returns-then-some_down
+returns-then-some_down c =
+    let a = c.args in
+    passed_down a.node.now a.live.now a.out.now a.mark.now a.turns.now a.number.now a.lane.now a.nodes a.destination a.links a.tally
+    (passed (goal.at.returns-then-some_down c).Else-turns_over-number_over) _ _ c.down_marked.ensures c.lane_down.ensures
+
+pub returns : goal.returns
+returns c =
+    let a = c.args in
+    passed_live a.node.now a.live.now a.out.now a.mark.now a.turns.now a.number.now a.lane.now a.nodes a.destination a.links a.tally
+    (passed (goal.at.returns c).Else-turns_over-number_over) (sym c.some_down.ensures ∙ c.if-some_down.false)
