@@ -1,4 +1,6 @@
 // Whether the record that lent arrays show is well formed.
+#![tactic(auto)]
+
 ghost use Rattle.std.specs.Prelude.{◌≡◌, []};
 ghost use Rattle.model.specs.Below.{tab};
 ghost use Rattle.model.specs.Formed.{well_formed};

@@ -2,29 +2,31 @@
 use Prim.Native.Nat.{◌*◌}
 use native.Mathlib.Omega.{arith}
 use mathlib.Core.Path.{sym, ◌∙◌}
-use borrow.Author.Tests.{not-false, leb-false}
-use borrow.Author.Rules.{rules}
+use borrow.Author.Tests.{leb-false}
 use Rattle.model.proofs.Below.{or_neither, any_false}
 use Rattle.formed.proofs.WellFormed.{Within, within, limits_refused, first_refused, then_refused, Passed, passed_down, passed_live}
+use mathlib.Core.Path.{ap}
+use mathlib.Core.Bool.{not}
 use Rattle.formed.proofs.formed.Goals as goal
+use Rattle.formed.proofs.formed.Goals.{Else-not-limits_hold, Else-turns_over-number_over}
 
 -- what the limits give to the loops
-bounds : (c : goal.Else-not-limits_hold) → let a = c.before.before.args in Within a.nodes a.destination a.links a.tally
+bounds : (c : goal.Else-not-limits_hold) → let a = c.args in Within a.nodes a.destination a.links a.tally
 bounds c =
     let a = c.args in
-    within a.nodes a.destination a.links a.tally (sym c.limits_hold.ensures ∙ not-false _ c.if-not-limits_hold.false)
+    within a.nodes a.destination a.links a.tally (sym c.limits_hold.ensures ∙ c.if-not-limits_hold.false)
 
 -- what the first two groups of tests give
-passed : (c : goal.Else-turns_over-number_over) → let a = c.before.before.before.before.before.before.before.before.before.before.args in Passed a.node.now a.live.now a.out.now a.mark.now a.turns.now a.number.now a.lane.now a.nodes a.destination a.links a.tally
+passed : (c : goal.Else-turns_over-number_over) → let a = c.args in Passed a.node.now a.live.now a.out.now a.mark.now a.turns.now a.number.now a.lane.now a.nodes a.destination a.links a.tally
 passed c =
     let a = c.args in
-    let w = bounds c in
+    let w = within a.nodes a.destination a.links a.tally (sym c.limits_hold.ensures ∙ c.if-not-limits_hold.false) in
     let first = or_neither _ _ c.if-node_over-self_linked.false in
     let link = or_neither _ _ first.0 in
     let second = or_neither _ _ c.if-turns_over-number_over.false in
     let count = or_neither _ _ second.0 in
     record {
-      limits = sym c.limits_hold.ensures ∙ not-false _ c.if-not-limits_hold.false;
+      limits = sym c.limits_hold.ensures ∙ c.if-not-limits_hold.false;
       named = sym c.node_over.ensures ∙ link.0;
       joined = sym c.self_linked.ensures ∙ link.1;
       outs = sym c.out_marked.ensures ∙ first.1;
@@ -36,7 +38,7 @@ passed c =
 pub returns-then-not-limits_hold : goal.returns-then-not-limits_hold
 returns-then-not-limits_hold c =
     let a = c.args in
-    limits_refused a.node.now a.live.now a.out.now a.mark.now a.turns.now a.number.now a.lane.now a.nodes a.destination a.links a.tally _ c.limits_hold.ensures c.if-not-limits_hold.true
+    limits_refused a.node.now a.live.now a.out.now a.mark.now a.turns.now a.number.now a.lane.now a.nodes a.destination a.links a.tally _ c.limits_hold.ensures (ap not c.if-not-limits_hold.true)
 
 pub overflow_mul-ends : goal.overflow_mul-ends
 overflow_mul-ends c = let w = bounds (goal.at.overflow_mul-ends c).Else-not-limits_hold in omega arith
