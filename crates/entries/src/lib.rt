@@ -1,4 +1,6 @@
 // The events of a drill file: read and written at a position of a slice that is lent.
+#![tactic(auto)]
+
 mod answers;
 mod names;
 mod reading;

@@ -1,4 +1,6 @@
 // A number of a drill file, in groups of seven bits: read and written at a position of a slice that is lent.
+#![tactic(auto)]
+
 mod answers;
 mod bits;
 mod reading;

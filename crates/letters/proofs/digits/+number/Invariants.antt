@@ -1,0 +1,5 @@
+-- The measure is the number. Assumes nothing.
+use Rattle.letters.proofs.digits.+number.Given as goal
+
+abbrev pub decreases-number : goal.decreases-number
+decreases-number l = l.n

@@ -1,0 +1,32 @@
+-- By how many digits the number has. Assumes nothing.
+use Rattle.letters.proofs.Pending.{begin, say, room_all, last}
+use Rattle.letters.proofs.DigitRows.{small_one, small_two, small_three}
+use Rattle.letters.proofs.numbers.small.Goals as goal
+
+pub two-requires : goal.two-requires
+two-requires c =
+    room_all (say (small_one c.args.n c.args.after c.if-n-lt10.true c.digit.ensures) (begin c.requires.0))
+
+pub returns-then-n-lt10 : goal.returns-then-n-lt10
+returns-then-n-lt10 c =
+    last (say (small_one c.args.n c.args.after c.if-n-lt10.true c.digit.ensures) (begin c.requires.0)) c.two.ensures
+
+pub three-requires : goal.three-requires
+three-requires c =
+    let digits = small_two c.requires.1 c.args.n c.requires.2 c.args.after c.if-n-lt10.false c.if-n-lt100.true in
+    room_all (say digits (begin c.requires.0))
+
+pub returns-then-n-lt100 : goal.returns-then-n-lt100
+returns-then-n-lt100 c =
+    let digits = small_two c.requires.1 c.args.n c.requires.2 c.args.after c.if-n-lt10.false c.if-n-lt100.true in
+    last (say digits (begin c.requires.0)) c.three.ensures
+
+pub four-requires : goal.four-requires
+four-requires c =
+    let digits = small_three c.requires.1 c.args.n c.requires.2 c.args.after c.if-n-lt100.false in
+    room_all (say digits (begin c.requires.0))
+
+pub returns : goal.returns
+returns c =
+    let digits = small_three c.requires.1 c.args.n c.requires.2 c.args.after c.if-n-lt100.false in
+    last (say digits (begin c.requires.0)) c.four.ensures
