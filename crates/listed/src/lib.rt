@@ -1,4 +1,6 @@
 // The packets of a record, in a list, oldest first.
+#![tactic(auto)]
+
 ghost use Rattle.std.specs.Prelude.{◌≡◌, Bool, true, List, ℕ, ◌+◌, ◌≤◌, ◌<◌, length, get_or};
 ghost use Rattle.model.specs.declared.Went.{Went};
 ghost use Rattle.model.specs.declared.Handled.{Handled};

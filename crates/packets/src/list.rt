@@ -109,7 +109,7 @@ pub fn put(
     b: bool,
 )
     requires { (flying < flight_most) × (x < ends_most) × Slots number.old lane.old bit.old }
-    ensures { (packets number.exit.now lane.new bit.new (flying + 1) ≡ packets number.entry.now lane.old bit.old flying ++ (record { number = n; lane = x; bit = b } ∷ [])) × Slots number.exit.now lane.new bit.new × (number.exit.now ≡ set number.entry.now flying n) × (lane.new ≡ set lane.old flying x) × (bit.new ≡ set bit.old flying b) }
+    ensures { (packets number.new lane.new bit.new (flying + 1) ≡ packets number.old lane.old bit.old flying ++ (record { number = n; lane = x; bit = b } ∷ [])) × Slots number.new lane.new bit.new × (number.new ≡ set number.old flying n) × (lane.new ≡ set lane.old flying x) × (bit.new ≡ set bit.old flying b) }
 {
     number[flying] = n;
     lane[flying] = x as u16;

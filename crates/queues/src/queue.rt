@@ -22,7 +22,7 @@ pub fn take<'a>(
     x: usize,
 )
     requires { (i < room) × (x < ends_most) × (length lane.old ≡ room) × (length first.old ≡ ends_most) }
-    ensures { ((last : List ℕ) (used : ℕ) → Queued lane.old first.entry.now last after.entry.now used → get_or first.entry.now x 0 ≡ i → Queued lane.new first.exit.now last after.entry.now used) × ((first last after : List ℕ) (number : List ℕ) (bit : List Bool) (used : ℕ) → Queued lane.old first last after used → get_or first x 0 ≡ i → flown number lane.new bit used ≡ less x (flown number lane.old bit used)) × (length lane.new ≡ room) × (lane.new ≡ set lane.old i no_lane) × (first.exit.now ≡ set first.entry.now x (get_or after.entry.now i 0)) }
+    ensures { ((last : List ℕ) (used : ℕ) → Queued lane.old first.old last after.now used → get_or first.old x 0 ≡ i → Queued lane.new first.new last after.now used) × ((first last after : List ℕ) (number : List ℕ) (bit : List Bool) (used : ℕ) → Queued lane.old first last after used → get_or first x 0 ≡ i → flown number lane.new bit used ≡ less x (flown number lane.old bit used)) × (length lane.new ≡ room) × (lane.new ≡ set lane.old i no_lane) × (first.new ≡ set first.old x (get_or after.now i 0)) }
 {
     let next = after[i];
     first[x] = next;
@@ -43,7 +43,7 @@ pub fn push(
     b: bool,
 )
     requires { (k < room) × (x < ends_most) × Roomy number.old lane.old bit.old × Queued lane.old first.old last.old after.old k }
-    ensures { (flown number.exit.now lane.new bit.new (k + 1) ≡ flown number.entry.now lane.old bit.old k ++ (record { number = n; lane = x; bit = b } ∷ [])) × Roomy number.exit.now lane.new bit.new × Queued lane.new first.new last.new after.new (k + 1) × Pushed number.entry.now lane.old bit.old first.old last.old after.old k n x b number.exit.now lane.new bit.new first.new last.new after.new }
+    ensures { (flown number.new lane.new bit.new (k + 1) ≡ flown number.old lane.old bit.old k ++ (record { number = n; lane = x; bit = b } ∷ [])) × Roomy number.new lane.new bit.new × Queued lane.new first.new last.new after.new (k + 1) × Pushed number.old lane.old bit.old first.old last.old after.old k n x b number.new lane.new bit.new first.new last.new after.new }
 {
     number[k] = n;
     lane[k] = x as u16;

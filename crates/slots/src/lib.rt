@@ -1,5 +1,7 @@
 // The packets of a record into the slots of a burst, and those that still stand back again.
 // Public for `queued` and `bursts` alone, so these functions may require what the check has told: docs/EXCEPTIONS.md.
+#![tactic(auto)]
+
 ghost use Rattle.std.specs.Prelude.{◌≡◌, ℕ, ◌≤◌, ◌<◌, length, get_or, replicate};
 ghost use Rattle.model.specs.Limits.{ends_most, flight_most};
 ghost use Rattle.arrays.specs.Flight.{Slots, packets};
