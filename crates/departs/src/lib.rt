@@ -1,5 +1,7 @@
 // What the events share: the way of a packet that leaves a node, the counts, and the numbers of the refusals.
 // Public for the crates up to `steps` alone, so these functions may require what the check has told: docs/EXCEPTIONS.md.
+#![tactic(auto)]
+
 mod answers;
 mod depart;
 mod tally;

@@ -1,5 +1,7 @@
 // A send: the part that moves arrows.
 // Public for `steps` alone, so it may require what the check has told: docs/EXCEPTIONS.md.
+#![tactic(auto)]
+
 ghost use Rattle.std.specs.Prelude.{◌≡◌, Bool, true, List, ◌<◌, length};
 ghost use Rattle.model.specs.Limits.{events_most};
 ghost use Rattle.model.specs.State.{Packet};

@@ -1,5 +1,7 @@
 // The way out of a node, on the arrays of a record that was checked.
 // Public for the crates up to `bursts` alone, so these functions may require what the check has told: docs/EXCEPTIONS.md.
+#![tactic(auto)]
+
 mod chain;
 mod search;
 
