@@ -1,7 +1,7 @@
 // Reading: the further groups of a number.
 ghost use Rattle.std.specs.Prelude.{◌≡◌, ◌+◌, ◌<◌, length, drop};
 ghost use Rattle.model.specs.Limits.{group};
-ghost use Rattle.model.specs.Number.{placed, join as joinTo, number_in};
+ghost use Rattle.model.specs.Number.{placed, join as join_to, number_in};
 ghost use Rattle.groups.specs.Numbers.{number_of};
 
 use crate::answers::Number;
@@ -10,7 +10,7 @@ use crate::bits::{goes_on, join, low};
 // The number at a position whose first group goes on.
 pub(crate) fn second_group(file: &[u8], at: usize, first: u32) -> Number
     requires { (at < length file.now) × (first < group) }
-    ensures { number_of result ≡ placed at (joinTo first (number_in 2 (drop (at + 1) file.now))) }
+    ensures { number_of result ≡ placed at (join_to first (number_in 2 (drop (at + 1) file.now))) }
 {
     let place = at + 1;
     if file.len() <= place {
@@ -29,7 +29,7 @@ pub(crate) fn second_group(file: &[u8], at: usize, first: u32) -> Number
 // The number at a position whose first two groups go on.
 fn third_group(file: &[u8], at: usize, first: u32, second: u32) -> Number
     requires { (at + 1 < length file.now) × (first < group) × (second < group) }
-    ensures { number_of result ≡ placed at (joinTo first (joinTo second (number_in 1 (drop (at + 2) file.now)))) }
+    ensures { number_of result ≡ placed at (join_to first (join_to second (number_in 1 (drop (at + 2) file.now)))) }
 {
     let place = at + 2;
     if file.len() <= place {

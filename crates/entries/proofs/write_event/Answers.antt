@@ -28,7 +28,7 @@ overflow_add-count c =
 pub returns-then-out-count : goal.returns-then-out-count
 returns-then-out-count c =
     too_short c.args.kind c.args.argument c.args.out.now
-    (sym c.is_kind.ensures ∙ c.if-not-is_kind.false) c.if-argument-gt-NUMBER.false c.width-first.ensures
+    (sym c.is_kind.ensures ∙ c.if-not-is_kind.false) (omega arith) c.width-first.ensures
     c.width.ensures c.if-out-count.true c.refused-then-out-count.ensures
 
 pub put_number-requires : goal.put_number-requires
@@ -39,5 +39,5 @@ put_number-requires c =
 pub returns : goal.returns
 returns c =
     done c.args.kind c.args.argument c.args.out.now
-    (sym c.is_kind.ensures ∙ c.if-not-is_kind.false) c.if-argument-gt-NUMBER.false c.width-first.ensures
+    (sym c.is_kind.ensures ∙ c.if-not-is_kind.false) (omega arith) c.width-first.ensures
     c.width.ensures c.if-out-count.false c.put_number.ensures.1 c.put_number-2.ensures.1
