@@ -1,5 +1,7 @@
 // One event on the arrays of a record that was checked: the part that moves arrows.
 // Public for `lent` and `bursts` alone, so `step` may require what the check has told: docs/EXCEPTIONS.md.
+#![tactic(auto)]
+
 mod fail;
 
 ghost use Rattle.std.specs.Prelude.{◌≡◌, true, List, ◌≤◌, ◌<◌, length};
