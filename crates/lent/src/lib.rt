@@ -1,4 +1,6 @@
 // One event on a record that is lent array by array: checked and done in place, nothing is copied.
+#![tactic(auto)]
+
 mod lengths;
 
 ghost use Rattle.lent.specs.Lent.{LentPost};
@@ -33,7 +35,7 @@ pub fn apply<'a>(
     kind: u32,
     argument: usize,
 ) -> Step
-    ensures { LentPost node.now nodes destination links (record { live = live.entry.now; out = out.old; local = local.old; remote = remote.old; mark = mark.old; turns = turns.old; number = number.old; lane = lane.old; bit = bit.old }) tally kind argument (record { live = live.exit.now; out = out.new; local = local.new; remote = remote.new; mark = mark.new; turns = turns.new; number = number.new; lane = lane.new; bit = bit.new }) result }
+    ensures { LentPost node.now nodes destination links (record { live = live.old; out = out.old; local = local.old; remote = remote.old; mark = mark.old; turns = turns.old; number = number.old; lane = lane.old; bit = bit.old }) tally kind argument (record { live = live.new; out = out.new; local = local.new; remote = remote.new; mark = mark.new; turns = turns.new; number = number.new; lane = lane.new; bit = bit.new }) result }
 {
     lengths(live, out, local, remote, mark, turns, number, lane, bit);
     if !formed(
