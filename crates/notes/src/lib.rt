@@ -1,5 +1,7 @@
 // What the calls of a burst gave, as numbers in lists.
 // Public for `bursts` alone, so these functions may require lists that are long enough: docs/EXCEPTIONS.md.
+#![tactic(auto)]
+
 ghost use Rattle.std.specs.Prelude.{◌≡◌, not, ◌+◌, ◌≤◌, ◌<◌, eqb, length, get_or, set};
 ghost use Rattle.model.specs.Limits.{ends_most, events_most};
 ghost use Rattle.model.specs.Below.{any};
