@@ -1,6 +1,6 @@
 /* Fiddleroost as a static library: the text of a drill file.
  *
- * Build it with `rt staticlib fiddleroost`, and link target/staticlib/libfiddleroost.a. It is made for Linux on x86-64,
+ * Build it with `rt lib` in crates/fiddleroost, and link crates/fiddleroost/out/libfiddleroost.a. It is made for Linux on x86-64,
  * calls nothing but memcpy and memset, and keeps nothing between calls. */
 
 #ifndef FIDDLEROOST_H

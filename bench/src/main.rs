@@ -47,7 +47,7 @@ fn main() -> ExitCode {
 fn started() -> io::Result<Bench> {
     Bench::new(
         Path::new("bench/target/drills"),
-        Path::new("target/bin/singles"),
+        Path::new("crates/singles/out/singles"),
     )
 }
 

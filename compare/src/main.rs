@@ -18,7 +18,7 @@ words:
   --from SEED               the first seed (1)
   --drills COUNT            so many drills (6,000)
   --files COUNT             so many of them through the program (400)
-  --program PATH            the program (target/bin/drill)
+  --program PATH            the program (crates/drill/out/drill)
   --wrong NAME              a wrong program of second in its place: must fail
 ";
 
@@ -53,7 +53,7 @@ fn parsed(words: &[String]) -> Option<(Option<Duration>, Plan)> {
         from: 1,
         drills: 6_000,
         files: 400,
-        program: PathBuf::from("target/bin/drill"),
+        program: PathBuf::from("crates/drill/out/drill"),
         judge: RIGHT,
     };
     let mut words = words.iter().map(String::as_str).peekable();

@@ -12,7 +12,7 @@ use compare::sides::{Library, Run, Second, Side};
 use second::make::edges;
 use second::wrong::{self, RIGHT};
 
-const DRILL: &str = concat!(env!("CARGO_MANIFEST_DIR"), "/../target/bin/drill");
+const DRILL: &str = concat!(env!("CARGO_MANIFEST_DIR"), "/../crates/drill/out/drill");
 
 fn plan(program: &Path, judge: wrong::Program) -> Plan {
     Plan {

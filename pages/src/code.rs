@@ -18,12 +18,20 @@ pub fn declares(text: &str, name: &str) -> bool {
     text.lines().any(|line| declared(line) == Some(name))
 }
 
-/// The module that a name is handed on from: `pub use module::name;`.
+/// The module that a name is handed on from: `pub use module::name;`, or
+/// `pub use module::{name, ..};` over any number of lines.
 pub fn handed_on<'a>(text: &'a str, name: &str) -> Option<&'a str> {
-    text.lines().find_map(|line| {
-        let path = line.strip_prefix("pub use ")?.strip_suffix(';')?;
+    let starts = text.match_indices("pub use ");
+    let starts = starts.filter(|(at, _)| *at == 0 || text[..*at].ends_with('\n'));
+    let mut paths = starts.filter_map(|(at, start)| text[at + start.len()..].split_once(';'));
+    paths.find_map(|(path, _)| {
         let (module, last) = path.rsplit_once("::")?;
-        (last == name).then_some(module)
+        let names = match last.strip_prefix('{') {
+            Some(list) => list.strip_suffix('}')?,
+            None => last,
+        };
+        let mut names = names.split(',').map(str::trim);
+        names.any(|handed| handed == name).then_some(module)
     })
 }
 
@@ -44,23 +52,45 @@ pub struct Contract<'a> {
     pub ensures: bool,
 }
 
-/// The contracts of a file's public functions: clauses stand between the line
-/// that names a function and the brace that opens its body.
+/// The word of a clause that begins in a line: `requires { P }`, `ensures { P }`,
+/// `ensures name { P }`, and with a star after the word.
+fn clause(line: &str) -> Option<&str> {
+    let end = line.find(|c: char| !c.is_alphanumeric() && c != '_')?;
+    let word = &line[..end];
+    (word == "requires" || word == "ensures").then_some(word)
+}
+
+/// The words of the clauses that stand between the line that names a function
+/// and the brace that opens its body; a clause goes over any number of lines.
+fn clauses<'a>(lines: &[&'a str]) -> Vec<&'a str> {
+    let mut words = Vec::new();
+    let mut depth = 0;
+    for line in lines {
+        let word = clause(line).filter(|_| depth == 0);
+        if depth == 0 && word.is_none() && line.ends_with('{') {
+            break;
+        }
+        if depth > 0 || word.is_some() {
+            depth += line.matches('{').count();
+            depth -= line.matches('}').count().min(depth);
+        }
+        words.extend(word);
+    }
+    words
+}
+
+/// The contracts of a file's public functions.
 pub fn contracts(text: &str) -> Vec<Contract<'_>> {
     let lines: Vec<&str> = text.lines().map(str::trim).collect();
     let public = |line: &str| line.starts_with("pub fn ") || line.starts_with("pub extern ");
     let starts = (0..lines.len()).filter(|&at| public(lines[at]));
-    let clause = |at: usize, word: &str| {
-        let signature = lines[at..].iter().take_while(|line| !line.ends_with('{'));
-        let mut clauses = signature.map(|line| line.starts_with(word));
-        clauses.any(|found| found)
-    };
     starts
         .filter_map(|at| {
+            let words = clauses(&lines[at..]);
             Some(Contract {
                 name: declared(lines[at])?,
-                requires: clause(at, "requires "),
-                ensures: clause(at, "ensures "),
+                requires: words.contains(&"requires"),
+                ensures: words.contains(&"ensures"),
             })
         })
         .collect()

@@ -182,12 +182,14 @@ impl Tree {
             .collect()
     }
 
-    /// The crates of crates.txt, which names each with those that it uses.
+    /// The crates of crates.txt, which names each with those that it uses: `name: dep ..`,
+    /// or `name staticlib: dep ..`; what follows `#` is a comment.
     pub fn crates(&self) -> Vec<String> {
         let list = self.read("crates.txt").unwrap_or_default();
-        let lines = list.lines().filter(|line| !line.starts_with('#'));
-        let names = lines.filter_map(|line| line.split_once(':'));
-        names.map(|(name, _)| name.to_string()).collect()
+        let lines = list.lines().filter_map(|line| line.split('#').next());
+        let heads = lines.filter_map(|line| line.split_once(':'));
+        let names = heads.filter_map(|(head, _)| head.split_whitespace().next());
+        names.map(str::to_string).collect()
     }
 
     /// The pages that a reader goes through, README.md first.

@@ -7,13 +7,15 @@ use made::Page;
 use pages::exceptions;
 
 const LIB: &str = "\
+#![tactic(auto)]
+
 pub struct Net {
     links: u8,
 }
 
 impl Net {
     pub fn sent(self) -> u8
-        ensures { r }
+        ensures { result ≡ 0 }
     {
         0
     }
@@ -27,14 +29,14 @@ fn inner() -> u8 {
 const WALK: &str = "\
 pub fn way(x: u8) -> u8
     requires { x < 9 }
-    ensures { r }
+    ensures same { result ≡ x }
 {
     x
 }
 ";
 
 const FILES: [(&str, &str); 3] = [
-    ("crates.txt", "one:\n"),
+    ("crates.txt", "# crates\none staticlib: low # the first\n"),
     ("crates/one/src/lib.rt", LIB),
     ("crates/one/src/walk.rt", WALK),
 ];

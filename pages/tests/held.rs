@@ -7,7 +7,7 @@ use pages::{checked, held};
 
 const STATE: &str = "\
 -- what is kept
-use Prim.Native.Nat.{ℕ}
+use Rattle.std.specs.Prelude.{ℕ}
 
 abbrev pub end : ℕ → ℕ
 end x = x
@@ -19,7 +19,7 @@ pub record Net : Type 0 where
   pub nodes : ℕ
 
 pub data Kind : Type 0 where
-  pub send : Kind
+  send : Kind
 ";
 
 const PROMISES: &str = "\

@@ -2,7 +2,7 @@
 
 use std::path::Path;
 
-use pages::code::contracts;
+use pages::code::{contracts, handed_on};
 use pages::names::{parse, Column};
 use pages::tree::Tree;
 use pages::{architecture, exceptions, links, promises};
@@ -26,8 +26,8 @@ fn the_page_has_no_fault() {
 
 /// A right name, and a wrong one that a search for a part of it would take.
 const STATED: [(&str, &str); 11] = [
-    ("Send.sendTo", "Send.send"),
-    ("Send.sendTo", "Lose.sendTo"),
+    ("Send.send_to", "Send.send"),
+    ("Send.send_to", "Lose.send_to"),
     ("Below.tab", "Below.n"),
     ("State.Ends.out", "State.Ends.turns"),
     ("History.History.next", "History.History.e"),
@@ -36,8 +36,8 @@ const STATED: [(&str, &str); 11] = [
         "network/Calls.CallPost.made",
     ),
     (
-        "replay/proofs/OneOutcome.text-one",
-        "replay/OneOutcome.text-one",
+        "replay/proofs/OneOutcome.text_one",
+        "replay/OneOutcome.text_one",
     ),
     ("network::open", "network::opening"),
     ("network::Network", "network::SLOTS"),
@@ -86,11 +86,11 @@ fn a_wrong_name_is_told_with_its_line() {
     let page = page();
     let line = 1 + page
         .lines()
-        .position(|line| line.contains("`Lose.loseOn`"))
+        .position(|line| line.contains("`Lose.lose_on`"))
         .expect("a row");
-    let page = page.replace("`Lose.loseOn`", "`Lose.loseOff`");
+    let page = page.replace("`Lose.lose_on`", "`Lose.lose_off`");
     let told = format!(
-        "{}:{line}: `Lose.loseOff` is not in the tree",
+        "{}:{line}: `Lose.lose_off` is not in the tree",
         promises::PAGE
     );
     assert_eq!(promises::faults(&tree(), &page), [told]);
@@ -107,7 +107,7 @@ fn an_edit_in_no_row_is_told() {
 
 #[test]
 fn an_empty_cell_is_told() {
-    let page = "| Sentence | Stated | Must fail | Run |\n|---|---|---|---|\n| a | `Send.sendTo` | | none: so |\n";
+    let page = "| Sentence | Stated | Must fail | Run |\n|---|---|---|---|\n| a | `Send.send_to` | | none: so |\n";
     let faults = promises::faults(&tree(), page);
     assert!(faults[0].ends_with(":3: an empty cell"), "{faults:?}");
 }
@@ -147,14 +147,47 @@ fn the_exceptions_are_those_of_the_code() {
 
 #[test]
 fn a_clause_belongs_to_its_function() {
-    let code = "pub fn a(\n    x: u8,\n) -> u8\n    ensures { r }\n{\n    x\n}\n\n\
+    let code = "pub fn a(\n    x: u8,\n) -> u8\n    ensures { result ≡ x }\n{\n    x\n}\n\n\
                 pub fn b() {\n}\n\nfn c()\n    requires { p }\n{\n}\n";
-    let found: Vec<_> = contracts(code)
-        .iter()
-        .map(|c| (c.name.to_string(), c.requires, c.ensures))
-        .collect();
     let expected = [("a", false, true), ("b", false, false)];
-    assert_eq!(found, expected.map(|(name, r, e)| (name.to_string(), r, e)));
+    assert_eq!(told(code), expected);
+}
+
+/// What is found of the contracts of a text.
+fn told(code: &str) -> Vec<(&str, bool, bool)> {
+    let contracts = contracts(code).into_iter();
+    contracts.map(|c| (c.name, c.requires, c.ensures)).collect()
+}
+
+#[test]
+fn a_clause_may_have_a_name_and_many_lines() {
+    let code = "pub fn a<'a>(x: &'a mut u8) -> bool\n    requires small { x.old < 9 }\n    \
+                ensures told {\n        OnOk { x }\n    }\n    ensures* kept { x.new ≡ x.old }\n{\n    true\n}\n\n\
+                pub extern \"C\" fn b() -> u8\n    requires {\n        p\n    }\n{\n    0\n}\n\n\
+                pub fn c() {\n    requires { p }\n}\n\npub fn d()\n    ensures_of { p }\n{\n}\n";
+    let expected = [
+        ("a", true, true),
+        ("b", true, false),
+        ("c", false, false),
+        ("d", false, false),
+    ];
+    assert_eq!(told(code), expected);
+}
+
+#[test]
+fn a_name_may_be_handed_on_among_others() {
+    let code = "use low::other;\npub use file::{DONE, Got};\n\npub use long::{\n    One,\n    two,\n};\npub use last::three;\n";
+    for (name, module) in [
+        ("DONE", "file"),
+        ("Got", "file"),
+        ("two", "long"),
+        ("three", "last"),
+    ] {
+        assert_eq!(handed_on(code, name), Some(module), "{name}");
+    }
+    for name in ["Go", "other", "long", "file", "One, two"] {
+        assert_eq!(handed_on(code, name), None, "{name}");
+    }
 }
 
 #[test]
