@@ -4,7 +4,6 @@ use mathlib.Core.Path.{◌≡◌, refl, sym, ap, ◌∙◌, subst}
 use mathlib.Core.List.{List, [], ◌∷◌, ◌++◌}
 use mathlib.Core.Option.{Option, none, some}
 use lib.ListN.{get_or}
-use Rattle.model.specs.Answers as answers
 use Rattle.model.specs.State.{State}
 use Rattle.model.specs.Outcome.{Outcome}
 use Rattle.model.specs.Opening.{Opening}

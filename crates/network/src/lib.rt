@@ -1,4 +1,6 @@
 // The network: its record, and every call that moves an arrow.
+#![tactic(auto)]
+
 mod opening;
 mod record;
 

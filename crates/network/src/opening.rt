@@ -16,7 +16,7 @@ pub(crate) const BAD_LINK: u32 = 3;
 
 pub(crate) const CLOSED_WALK: u32 = 4;
 
-#[derive(Drop)]
+#[derive(Clone, Copy)]
 pub struct Opened {
     pub network: Network,
     pub answer: u32,

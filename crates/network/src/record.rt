@@ -2,7 +2,7 @@
 use arrays::SLOTS;
 use model::{Handled, Went};
 
-#[derive(Drop)]
+#[derive(Clone, Copy)]
 pub struct Network {
     // by end: its node
     pub node: [u16; model::ENDS],
@@ -31,7 +31,7 @@ pub struct Network {
 }
 
 // What a call hands back.
-#[derive(Drop)]
+#[derive(Clone, Copy)]
 pub struct Moved {
     pub network: Network,
     pub answer: u32,
@@ -40,7 +40,7 @@ pub struct Moved {
 }
 
 // What a burst hands back: so many calls were made.
-#[derive(Drop)]
+#[derive(Clone, Copy)]
 pub struct Burst {
     pub network: Network,
     pub count: usize,
