@@ -8,9 +8,6 @@ use mathlib.Core.List.{List, [], ◌∷◌, ◌++◌}
 use lib.Dec.{eqb}
 use lib.ListN.{length, get_or}
 use borrow.Author.Tests.{eq-eqb, ne_eqb}
-use denote.Enum.Declared.{tag_of}
-use types.Run.{OneOf}
-use Rattle.model.specs.contracts.Went.{the_type}
 use Rattle.model.specs.declared.Handled.{Handled}
 use Rattle.model.specs.declared.Handled.TheVariants as handled
 use Rattle.model.specs.declared.Went.{Went}
@@ -86,12 +83,9 @@ module _ (local : List Bool) (flight : List Packet) where
       → flight ++ (record { number = n; lane = x; bit = get_or local x false } ∷ []) ≡ passed local flight h w
   passed_lane n x h w e f = rw (e, f)
 
-  pub passed_none : (h : Handled) (w : Went) → OneOf (1 ∷ 2 ∷ 3 ∷ 4 ∷ []) (tag_of the_type w) → flight ≡ passed local flight h w
+  pub passed_none : (h : Handled) (w : Went) → ((x : ℕ) → w ≡ went.Lane x → ⊥) → flight ≡ passed local flight h w
   passed_none handled.Nothing w k = refl
-  passed_none (handled.Packet n) (went.Lane x) (inl e) = absurd (omega (arith, e))
-  passed_none (handled.Packet n) (went.Lane x) (inr (inl e)) = absurd (omega (arith, e))
-  passed_none (handled.Packet n) (went.Lane x) (inr (inr (inl e))) = absurd (omega (arith, e))
-  passed_none (handled.Packet n) (went.Lane x) (inr (inr (inr e))) = absurd (omega (arith, e))
+  passed_none (handled.Packet n) (went.Lane x) k = absurd (k x refl)
   passed_none (handled.Packet n) went.Delivered k = refl
   passed_none (handled.Packet n) went.Lost k = refl
   passed_none (handled.Packet n) went.Stranded k = refl

@@ -20,7 +20,7 @@ use Rattle.model.specs.Fail.{off}
 use Rattle.model.proofs.Below.{clash}
 use Rattle.arrays.specs.View.{packet_at}
 use Rattle.arrays.specs.Flight.{Slots, packets}
-use Rattle.arrays.specs.Told.{tells, left, passed, flies}
+use Rattle.arrays.specs.Told.{tells, left, flies}
 use Rattle.arrays.proofs.Below.{length-tab}
 use Rattle.packets.specs.Moves.{Removed}
 use Rattle.arrays.proofs.Searches.{first_most}
@@ -131,13 +131,3 @@ module _ (kind a : ℕ) (local : List Bool) (flight : List Packet) (answer : ℕ
       → length (flies kind a local flight answer h w) ≤ flight_most → (n x : ℕ) → h ≡ handled.Packet n → w ≡ went.Lane x → stay < flight_most
   flies_room number lane bit stay e m n x f g =
       omega (arith, m, passes_more n x f g, ap length e, length-tab (packet_at number lane bit) stay)
-
--- none passes on but by a lane
-pub passed_by_none : (local : List Bool) (flight : List Packet) (h : Handled) (w : Went) → ((x : ℕ) → w ≡ went.Lane x → ⊥)
-    → flight ≡ passed local flight h w
-passed_by_none local flight handled.Nothing w k = refl
-passed_by_none local flight (handled.Packet n) (went.Lane x) k = absurd (k x refl)
-passed_by_none local flight (handled.Packet n) went.Delivered k = refl
-passed_by_none local flight (handled.Packet n) went.Lost k = refl
-passed_by_none local flight (handled.Packet n) went.Stranded k = refl
-passed_by_none local flight (handled.Packet n) went.Nowhere k = refl

@@ -5,16 +5,12 @@ use mathlib.Core.Path.{◌≡◌, refl}
 use mathlib.Core.Bool.{Bool, true, false}
 use mathlib.Core.List.{List, []}
 use lib.ListN.{length, get_or}
-use Rattle.model.specs.declared.Handled.{Handled}
-use Rattle.model.specs.declared.Handled.TheVariants as handled
-use Rattle.model.specs.declared.Went.{Went}
-use Rattle.model.specs.declared.Went.TheVariants as went
 use Rattle.model.specs.Limits.{ends_most}
 use Rattle.model.specs.State.{Packet}
 use Rattle.model.specs.Lanes.{on_lane}
 use Rattle.model.specs.Fail.{off}
 use Rattle.model.proofs.Below.{clash}
-use Rattle.arrays.specs.Told.{tells, passed}
+use Rattle.arrays.specs.Told.{tells}
 use Rattle.queues.specs.Queue.{room, flown, Queued}
 use Rattle.queues.proofs.Oldest.{queued_oldest}
 use Rattle.arrays.specs.declared.asked.Asked.{Asked}
@@ -50,13 +46,3 @@ told_first {lane} {first} {used = used} q number bit kind a i n m l f h =
       at = λ t. (l, refl, r);
       nowhere = λ t. absurd (clash refl t);
     })
-
--- none passes on but by a lane
-pub passed_by_none : (local : List Bool) (flight : List Packet) (h : Handled) (w : Went) → ((x : ℕ) → w ≡ went.Lane x → ⊥)
-    → flight ≡ passed local flight h w
-passed_by_none local flight handled.Nothing w k = refl
-passed_by_none local flight (handled.Packet n) (went.Lane x) k = absurd (k x refl)
-passed_by_none local flight (handled.Packet n) went.Delivered k = refl
-passed_by_none local flight (handled.Packet n) went.Lost k = refl
-passed_by_none local flight (handled.Packet n) went.Stranded k = refl
-passed_by_none local flight (handled.Packet n) went.Nowhere k = refl

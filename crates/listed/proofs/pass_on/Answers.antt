@@ -3,8 +3,7 @@ use Prim.Native.Nat.{◌<◌}
 use mathlib.Core.Path.{◌∙◌}
 use Rattle.model.specs.Limits.{ends_most}
 use Rattle.arrays.specs.Flight.{packets}
-use Rattle.arrays.proofs.Leaving.{passed_lane, passed_nothing}
-use Rattle.listed.proofs.Listing.{passed_by_none}
+use Rattle.arrays.proofs.Leaving.{passed_lane, passed_nothing, passed_none}
 use borrow.Author.Rules.{rules}
 use Rattle.listed.proofs.pass_on.Goals as goal
 
@@ -32,7 +31,7 @@ returns-in-Lane c =
 pub returns-in_default : goal.returns-in_default
 returns-in_default c =
     let a = c.args in
-    (passed_by_none a.local.now (packets a.number.now a.lane.now a.bit.now a.flying) a.handled a.went c.in_default.not-Lane, c.requires.1)
+    (passed_none a.local.now (packets a.number.now a.lane.now a.bit.now a.flying) a.handled a.went c.in_default.not-Lane, c.requires.1)
 
 pub returns-in-Nothing : goal.returns-in-Nothing
 returns-in-Nothing c =

@@ -1,8 +1,7 @@
 -- The packet is pushed, or nothing moves. Assumes nothing.
 use mathlib.Core.Path.{◌∙◌}
 use Rattle.queues.specs.Queue.{flown}
-use Rattle.arrays.proofs.Leaving.{passed_lane, passed_nothing}
-use Rattle.queued.proofs.Queuing.{passed_by_none}
+use Rattle.arrays.proofs.Leaving.{passed_lane, passed_nothing, passed_none}
 use Rattle.queued.proofs.pass_on.Goals as goal
 
 pub bounds-local-x : goal.bounds-local-x
@@ -28,7 +27,7 @@ returns-in-Lane c =
 pub returns-in_default : goal.returns-in_default
 returns-in_default c =
     let a = c.args in (
-      passed_by_none a.local.now (flown a.number.now a.lane.now a.bit.now a.used) a.handled a.went
+      passed_none a.local.now (flown a.number.now a.lane.now a.bit.now a.used) a.handled a.went
           c.in_default.not-Lane,
       c.requires.2,
       c.requires.3,
