@@ -1,4 +1,6 @@
 // A burst on a record: it is checked once, its packets stand in queues while the events run, and are gathered again.
+#![tactic(auto)]
+
 ghost use Rattle.network.specs.Calls.{BurstPost};
 
 use network::{Burst, Network};

@@ -1,5 +1,7 @@
 // Events one after the other, on the arrays of a record that was checked once.
 // Public for `bursts` alone, so `run` may require what the check has told: docs/EXCEPTIONS.md.
+#![tactic(auto)]
+
 ghost use Rattle.std.specs.Prelude.{◌≡◌, true, ◌≤◌, length};
 ghost use Rattle.model.specs.Formed.{well_formed};
 ghost use Rattle.queues.specs.Queue.{room, flown, Roomy, Queued};

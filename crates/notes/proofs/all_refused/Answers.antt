@@ -19,12 +19,12 @@ bounds-answers-i c = omega (arith, c.loop-i-test.true, c.requires)
 pub returns-then-answers-i-eq0 : goal.returns-then-answers-i-eq0
 returns-then-answers-i-eq0 c =
     let h = c.loop-i in
-    sym (ap not (any_here (λ j. eqb (get_or c.args.answers.now j 0) 0) c.args.count h.i c.loop-i-test.true (eq-eqb _ 0 c.if-answers-i-eq0.true)))
+    sym (ap not (any_here (λ j. eqb (get_or c.args.answers.now j 0) 0) c.args.count h.i c.loop-i-test.true (eq-eqb _ 0 (omega arith))))
 
 pub loop-i-preserved : goal.loop-i-preserved
 loop-i-preserved c =
     let h = c.loop-i in
-    (search rules, any_more (λ j. eqb (get_or c.args.answers.now j 0) 0) h.i {some = false} {here = false} h.invariant.1 (sym (ne_eqb _ 0 c.if-answers-i-eq0.false)))
+    (search rules, any_more (λ j. eqb (get_or c.args.answers.now j 0) 0) h.i {some = false} {here = false} h.invariant.1 (sym (ne_eqb _ 0 (λ z. omega arith))))
 
 pub returns : goal.returns
 returns c =
