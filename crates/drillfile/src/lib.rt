@@ -1,4 +1,6 @@
 // Drill files: headers read and written at a position of a slice that is lent; events and numbers, handed on.
+#![tactic(auto)]
+
 mod answers;
 mod header;
 mod writing;
