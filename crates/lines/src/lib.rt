@@ -1,5 +1,7 @@
 // The lines of the text, written at a position of a lent part that has room for them.
 // Public for `replay` alone, so these functions may require that room: docs/EXCEPTIONS.md.
+#![tactic(auto)]
+
 mod parts;
 
 ghost use Rattle.std.specs.Prelude.{◌++◌, ◌≡◌, ◌≤◌, ◌<◌, length};
