@@ -1,6 +1,7 @@
 // Headers of part `readings` at the bounds.
 use crate::file::{File, cut, empty, with_byte, with_number};
 use crate::read::{file_line, header_line};
+use std::io::Result;
 use sums::{least, less_one, wide, wide8};
 
 // Ten numbers a file: how many bytes it has, and nine, of which these are the first.
@@ -17,9 +18,10 @@ const SIZES: [u32; 24] = [
     2_097_151,
 ];
 
-fn at_start(f: File) {
-    file_line(f);
-    header_line(f, 0);
+fn at_start(out: &impl Print, f: File) -> Result<()> {
+    file_line(out, f)?;
+    header_line(out, f, 0)?;
+    Ok(())
 }
 
 fn fixed(k: usize) -> File {
@@ -34,22 +36,24 @@ fn fixed(k: usize) -> File {
     cut(f, wide8(FILES[first]))
 }
 
-fn all_fixed() {
+fn all_fixed(out: &impl Print) -> Result<()> {
     let mut k: usize = 0;
     while k < 14 {
-        at_start(fixed(k));
+        at_start(out, fixed(k))?;
         k += 1;
     }
+    Ok(())
 }
 
-fn all_sizes() {
+fn all_sizes(out: &impl Print) -> Result<()> {
     let mut k: usize = 0;
     while k < 12 {
         let nodes = with_number(empty(), wide(SIZES[2 * k]));
         let both = with_number(nodes, wide(SIZES[2 * k + 1]));
-        at_start(with_byte(both, 0));
+        at_start(out, with_byte(both, 0))?;
         k += 1;
     }
+    Ok(())
 }
 
 fn of_links(links: usize) -> File {
@@ -65,21 +69,21 @@ fn of_links(links: usize) -> File {
 }
 
 // Whole, and one byte short.
-fn counted(links: usize) {
+fn counted(out: &impl Print, links: usize) -> Result<()> {
     let f = of_links(links);
-    at_start(f);
-    at_start(cut(f, less_one(f.length)));
+    at_start(out, f)?;
+    at_start(out, cut(f, less_one(f.length)))
 }
 
 // The order of answers, sizes at their bounds, and link counts of one, two and three bytes.
-pub(crate) fn fixed_headers() {
-    all_fixed();
-    all_sizes();
-    counted(127);
-    counted(128);
-    counted(129);
-    counted(255);
-    counted(256);
-    counted(257);
-    counted(2_097_151);
+pub(crate) fn fixed_headers(out: &impl Print) -> Result<()> {
+    all_fixed(out)?;
+    all_sizes(out)?;
+    counted(out, 127)?;
+    counted(out, 128)?;
+    counted(out, 129)?;
+    counted(out, 255)?;
+    counted(out, 256)?;
+    counted(out, 257)?;
+    counted(out, 2_097_151)
 }

@@ -3,7 +3,7 @@ use crate::number::most;
 use crate::rows::LIST;
 use sums::{double, draw, least, less_one, narrow, plus, rest};
 
-#[derive(Drop)]
+#[derive(Clone, Copy)]
 pub(crate) struct Case {
     pub nodes: usize,
     pub destination: usize,

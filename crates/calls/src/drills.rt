@@ -5,46 +5,55 @@ use crate::number::narrow8;
 use crate::read::{After, event_line, file_line, header_line};
 use crate::readings::argument;
 use crate::writings::{case_into, event_into};
+use std::io::Result;
 use sums::{draw, least, less_one, narrow, plus, wide8};
 
 // An event behind what stands, and the length of all.
-fn with_event(x: &mut usize, part: &mut [u8], length: usize) -> usize {
+fn with_event(out: &impl Print, x: &mut usize, part: &mut [u8], length: usize) -> Result<usize> {
     let kind = plus(1, draw(x, 4));
     let a = argument(x);
     let at = least(length, part.len());
-    plus(at, event_into(&mut part[at..], narrow(kind), narrow(a)))
+    let count = event_into(out, &mut part[at..], narrow(kind), narrow(a))?;
+    Ok(plus(at, count))
 }
 
-fn with_events(x: &mut usize, part: &mut [u8], from: usize, count: usize) -> usize {
+fn with_events(
+    out: &impl Print,
+    x: &mut usize,
+    part: &mut [u8],
+    from: usize,
+    count: usize,
+) -> Result<usize> {
     let mut at = from;
     let mut i: usize = 0;
     while i < count {
-        let next = with_event(x, part, at);
+        let next = with_event(out, x, part, at)?;
         at = next;
         i += 1;
     }
-    at
+    Ok(at)
 }
 
 // An event takes two bytes, so that no file has as many events as it has room.
-fn read_events(f: File, from: usize) {
+fn read_events(out: &impl Print, f: File, from: usize) -> Result<()> {
     let mut at = from;
     let mut left = ROOM;
     while 0 < left {
         left -= 1;
-        let After::At(next) = event_line(f, at) else {
-            return;
+        let After::At(next) = event_line(out, f, at)? else {
+            return Ok(());
         };
         at = next;
     }
+    Ok(())
 }
 
-fn read_back(f: File) {
-    file_line(f);
-    let After::At(next) = header_line(f, 0) else {
-        return;
+fn read_back(out: &impl Print, f: File) -> Result<()> {
+    file_line(out, f)?;
+    let After::At(next) = header_line(out, f, 0)? else {
+        return Ok(());
     };
-    read_events(f, next);
+    read_events(out, f, next)
 }
 
 // The last byte as if one more followed, and a 0, which the shortest form has not.
@@ -58,41 +67,42 @@ fn not_shortest(f: File) -> File {
     with_byte(changed(f, last, narrow8(byte)), 0)
 }
 
-fn read_damaged(x: &mut usize, f: File) {
+fn read_damaged(out: &impl Print, x: &mut usize, f: File) -> Result<()> {
     let length = draw(x, f.length);
-    read_back(cut(f, length));
+    read_back(out, cut(f, length))?;
     let high = draw(x, f.length);
-    read_back(changed(f, high, narrow8(plus(128, draw(x, 128)))));
+    read_back(out, changed(f, high, narrow8(plus(128, draw(x, 128)))))?;
     let any = draw(x, f.length);
-    read_back(changed(f, any, narrow8(draw(x, 256))));
-    read_back(not_shortest(f));
-    read_back(with_byte(with_byte(f, 5), 0));
+    read_back(out, changed(f, any, narrow8(draw(x, 256))))?;
+    read_back(out, not_shortest(f))?;
+    read_back(out, with_byte(with_byte(f, 5), 0))?;
     let going_on = with_byte(with_byte(with_byte(f, 129), 129), 129);
-    read_back(with_byte(going_on, 1));
+    read_back(out, with_byte(going_on, 1))
 }
 
-fn drill(x: &mut usize) {
+fn drill(out: &impl Print, x: &mut usize) -> Result<()> {
     let c = drawn(x);
     let mut part = blank();
-    let header = case_into(&mut part, c);
+    let header = case_into(out, &mut part, c)?;
     // Nothing is written of a refused header.
     if header == 0 {
-        return;
+        return Ok(());
     }
     let count = draw(x, 12);
-    let length = with_events(x, &mut part, header, count);
+    let length = with_events(out, x, &mut part, header, count)?;
     let f = File {
         bytes: part,
         length,
     };
-    read_back(f);
-    read_damaged(x, f);
+    read_back(out, f)?;
+    read_damaged(out, x, f)
 }
 
-pub(crate) fn part(x: &mut usize) {
+pub(crate) fn part(out: &impl Print, x: &mut usize) -> Result<()> {
     let mut i: usize = 0;
     while i < 120 {
-        drill(x);
+        drill(out, x)?;
         i += 1;
     }
+    Ok(())
 }

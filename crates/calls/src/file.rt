@@ -7,7 +7,7 @@ use sums::{least, narrow};
 pub(crate) const ROOM: usize = 700;
 
 // Bytes past the length are no part of the file.
-#[derive(Drop)]
+#[derive(Clone, Copy)]
 pub(crate) struct File {
     pub bytes: [u8; ROOM],
     pub length: usize,

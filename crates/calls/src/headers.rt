@@ -3,6 +3,7 @@ use crate::file::{File, changed, cut, empty, with_byte};
 use crate::number::{less, narrow8};
 use crate::read::{file_line, header_line};
 use crate::readings::NUMBER_BYTES;
+use std::io::Result;
 use sums::{HUGE, draw, less_one, plus};
 
 fn loose_bytes(x: &mut usize, count: usize) -> File {
@@ -61,24 +62,26 @@ fn troubled(x: &mut usize, f: File) -> File {
     f
 }
 
-fn drawn_header(x: &mut usize) {
+fn drawn_header(out: &impl Print, x: &mut usize) -> Result<()> {
     let before = draw(x, 4);
     let loose = loose_bytes(x, before);
     let good = with_header(x, loose);
     let f = troubled(x, good);
-    file_line(f);
-    header_line(f, 0);
-    header_line(f, before);
-    header_line(f, plus(before, 1));
-    header_line(f, f.length);
-    header_line(f, plus(f.length, 1));
-    header_line(f, HUGE);
+    file_line(out, f)?;
+    header_line(out, f, 0)?;
+    header_line(out, f, before)?;
+    header_line(out, f, plus(before, 1))?;
+    header_line(out, f, f.length)?;
+    header_line(out, f, plus(f.length, 1))?;
+    header_line(out, f, HUGE)?;
+    Ok(())
 }
 
-pub(crate) fn drawn_headers(x: &mut usize) {
+pub(crate) fn drawn_headers(out: &impl Print, x: &mut usize) -> Result<()> {
     let mut i: usize = 0;
     while i < 40 {
-        drawn_header(x);
+        drawn_header(out, x)?;
         i += 1;
     }
+    Ok(())
 }

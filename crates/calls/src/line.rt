@@ -1,16 +1,15 @@
 // The fields of a line.
-use libc::STDOUT_FILENO;
+use std::io::Result;
 
-pub(crate) fn word(w: &[u8]) {
-    io::write_all(STDOUT_FILENO, w);
+pub(crate) fn word(out: &impl Print, w: &[u8]) -> Result<()> {
+    out.write_all(w)
 }
 
 // A space and a number.
-pub(crate) fn field(n: usize) {
-    word(b" ");
-    io::print_decimal(STDOUT_FILENO, n as u64);
+pub(crate) fn field(out: &impl Print, n: usize) -> Result<()> {
+    print!(out; " {n}")
 }
 
-pub(crate) fn end() {
-    word(b"\n");
+pub(crate) fn end(out: &impl Print) -> Result<()> {
+    word(out, b"\n")
 }

@@ -3,6 +3,7 @@ use crate::drawn::drawn;
 use crate::line::{end, field, word};
 use crate::rows::{COUNT, LIST, list, number};
 use network::Opened;
+use std::io::Result;
 use sums::{of_record, wide};
 
 fn opened(nodes: usize, destination: usize, list: &[u32], length: usize) -> Opened {
@@ -12,47 +13,56 @@ fn opened(nodes: usize, destination: usize, list: &[u32], length: usize) -> Open
     network::open(nodes, destination, list)
 }
 
-fn line(nodes: usize, destination: usize, list: &[u32; LIST], length: usize) {
+fn line(
+    out: &impl Print,
+    nodes: usize,
+    destination: usize,
+    list: &[u32; LIST],
+    length: usize,
+) -> Result<()> {
     let o = opened(nodes, destination, list, length);
     let n = o.network;
-    word(b"o");
-    field(nodes);
-    field(destination);
-    field(length);
-    field(wide(o.answer));
-    field(o.place);
-    field(of_record(n));
-    end();
+    word(out, b"o")?;
+    field(out, nodes)?;
+    field(out, destination)?;
+    field(out, length)?;
+    field(out, wide(o.answer))?;
+    field(out, o.place)?;
+    field(out, of_record(n))?;
+    end(out)
 }
 
-fn row(i: usize) {
+fn row(out: &impl Print, i: usize) -> Result<()> {
     let list = list(wide(number(i, 3)), wide(number(i, 4)), number(i, 5));
     line(
+        out,
         wide(number(i, 0)),
         wide(number(i, 1)),
         &list,
         wide(number(i, 2)),
-    );
+    )
 }
 
-fn rows() {
+fn rows(out: &impl Print) -> Result<()> {
     let mut i: usize = 0;
     while i < COUNT {
-        row(i);
+        row(out, i)?;
         i += 1;
     }
+    Ok(())
 }
 
-fn one_drawn(x: &mut usize) {
+fn one_drawn(out: &impl Print, x: &mut usize) -> Result<()> {
     let c = drawn(x);
-    line(c.nodes, c.destination, &c.list, c.length);
+    line(out, c.nodes, c.destination, &c.list, c.length)
 }
 
-pub(crate) fn part(x: &mut usize) {
-    rows();
+pub(crate) fn part(out: &impl Print, x: &mut usize) -> Result<()> {
+    rows(out)?;
     let mut i: usize = 0;
     while i < 120 {
-        one_drawn(x);
+        one_drawn(out, x)?;
         i += 1;
     }
+    Ok(())
 }

@@ -2,6 +2,7 @@
 use crate::file::{File, front};
 use crate::line::{end, field, word};
 use drillfile::{Cursor, Got, Number};
+use std::io::Result;
 use sums::{of_bytes, of_record, wide};
 
 // The position after what was read, where reading goes on.
@@ -11,89 +12,89 @@ pub(crate) enum After {
     Nothing,
 }
 
-pub(crate) fn file_line(f: File) {
-    word(b"b");
-    field(f.length);
-    field(of_bytes(front(&f.bytes, f.length)));
-    end();
+pub(crate) fn file_line(out: &impl Print, f: File) -> Result<()> {
+    word(out, b"b")?;
+    field(out, f.length)?;
+    field(out, of_bytes(front(&f.bytes, f.length)))?;
+    end(out)
 }
 
-pub(crate) fn number_line(f: File, position: usize) {
+pub(crate) fn number_line(out: &impl Print, f: File, position: usize) -> Result<()> {
     let r = drillfile::read_number(front(&f.bytes, f.length), position);
-    word(b"n");
-    field(position);
+    word(out, b"n")?;
+    field(out, position)?;
     match r {
         Number::Value(value, next) => {
-            word(b" 0 0");
-            field(wide(value));
-            field(next);
+            word(out, b" 0 0")?;
+            field(out, wide(value))?;
+            field(out, next)?;
         }
         Number::Spoilt(place) => {
-            word(b" 11");
-            field(place);
-            word(b" - -");
+            word(out, b" 11")?;
+            field(out, place)?;
+            word(out, b" - -")?;
         }
     }
-    end();
+    end(out)
 }
 
 // The fields of an event that was read.
-fn got_fields(got: Got) -> After {
+fn got_fields(out: &impl Print, got: Got) -> Result<After> {
     match got {
         Got::Event {
             kind,
             argument,
             next,
         } => {
-            word(b" 0 0");
-            field(wide(kind));
-            field(wide(argument));
-            field(next.at);
-            After::At(next.at)
+            word(out, b" 0 0")?;
+            field(out, wide(kind))?;
+            field(out, wide(argument))?;
+            field(out, next.at)?;
+            Ok(After::At(next.at))
         }
         Got::End(next) => {
-            word(b" 0 0 - -");
-            field(next.at);
-            After::Nothing
+            word(out, b" 0 0 - -")?;
+            field(out, next.at)?;
+            Ok(After::Nothing)
         }
         Got::Spoilt(place, next) => {
-            word(b" 11");
-            field(place);
-            word(b" - -");
-            field(next.at);
-            After::Nothing
+            word(out, b" 11")?;
+            field(out, place)?;
+            word(out, b" - -")?;
+            field(out, next.at)?;
+            Ok(After::Nothing)
         }
     }
 }
 
-pub(crate) fn event_line(f: File, position: usize) -> After {
+pub(crate) fn event_line(out: &impl Print, f: File, position: usize) -> Result<After> {
     let got = drillfile::read_event(front(&f.bytes, f.length), Cursor { at: position });
-    word(b"e");
-    field(position);
-    let after = got_fields(got);
-    end();
-    after
+    word(out, b"e")?;
+    field(out, position)?;
+    let after = got_fields(out, got)?;
+    end(out)?;
+    Ok(after)
 }
 
 // Nothing is read after a refused header.
-fn after_header(answer: u32, next: usize) -> After {
-    field(next);
+fn after_header(out: &impl Print, answer: u32, next: usize) -> Result<After> {
+    field(out, next)?;
     if answer == 0 {
-        return After::At(next);
+        return Ok(After::At(next));
     }
-    After::Nothing
+    Ok(After::Nothing)
 }
 
-pub(crate) fn header_line(f: File, position: usize) -> After {
+pub(crate) fn header_line(out: &impl Print, f: File, position: usize) -> Result<After> {
     let h = drillfile::read_header(front(&f.bytes, f.length), Cursor { at: position });
     let record = h.network;
     let next = h.next;
-    word(b"r");
-    field(position);
-    field(wide(h.answer));
-    field(h.place);
-    let after = after_header(h.answer, next.at);
-    field(of_record(record));
-    end();
-    after
+    word(out, b"r")?;
+    field(out, position)?;
+    field(out, wide(h.answer))?;
+    field(out, h.place)?;
+    let after = after_header(out, h.answer, next.at)?;
+    field(out, of_record(record))?;
+    end(out)?;
+    Ok(after)
 }

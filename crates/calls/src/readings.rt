@@ -4,6 +4,7 @@ use crate::file::{File, cut, empty, with_byte, with_number};
 use crate::headers::drawn_headers;
 use crate::number::narrow8;
 use crate::read::{event_line, file_line, number_line};
+use std::io::Result;
 use sums::{HUGE, draw, plus};
 
 pub(crate) const NUMBER_BYTES: [u8; 6] = [0, 1, 127, 128, 129, 255];
@@ -13,12 +14,12 @@ const EVENT_BYTES: [u8; 6] = [0, 1, 4, 5, 128, 255];
 // Files of at most three bytes out of six: 1, 6, 36 and 216 of them.
 const SHORT: usize = 259;
 
-fn line(f: File, position: usize, event: bool) {
+fn line(out: &impl Print, f: File, position: usize, event: bool) -> Result<()> {
     if event {
-        event_line(f, position);
-        return;
+        event_line(out, f, position)?;
+        return Ok(());
     }
-    number_line(f, position);
+    number_line(out, f, position)
 }
 
 fn digits(six: [u8; 6], index: usize, length: usize) -> File {
@@ -41,24 +42,25 @@ fn short(six: [u8; 6], i: usize) -> File {
     digits(six, i - 43, 3)
 }
 
-fn every_short(six: [u8; 6], event: bool) {
+fn every_short(out: &impl Print, six: [u8; 6], event: bool) -> Result<()> {
     let mut i: usize = 0;
     while i < SHORT {
-        line(short(six, i), 0, event);
+        line(out, short(six, i), 0, event)?;
         i += 1;
     }
+    Ok(())
 }
 
 // Each position up to two past the end, and two far past it.
-fn every_position(f: File, event: bool) {
+fn every_position(out: &impl Print, f: File, event: bool) -> Result<()> {
     let most = plus(f.length, 3);
     let mut at: usize = 0;
     while at < most {
-        line(f, at, event);
+        line(out, f, at, event)?;
         at += 1;
     }
-    line(f, 1000, event);
-    line(f, HUGE, event);
+    line(out, f, 1000, event)?;
+    line(out, f, HUGE, event)
 }
 
 fn any_byte(x: &mut usize) -> u8 {
@@ -116,36 +118,37 @@ fn good_events(x: &mut usize) -> File {
     f
 }
 
-fn any_file(x: &mut usize) {
+fn any_file(out: &impl Print, x: &mut usize) -> Result<()> {
     let length = plus(16, draw(x, 9));
     let f = any_bytes(x, length);
-    file_line(f);
-    every_position(f, false);
-    every_position(f, true);
+    file_line(out, f)?;
+    every_position(out, f, false)?;
+    every_position(out, f, true)
 }
 
-fn any_files(x: &mut usize) {
+fn any_files(out: &impl Print, x: &mut usize) -> Result<()> {
     let mut i: usize = 0;
     while i < 6 {
-        any_file(x);
+        any_file(out, x)?;
         i += 1;
     }
+    Ok(())
 }
 
-fn good_file(x: &mut usize) {
+fn good_file(out: &impl Print, x: &mut usize) -> Result<()> {
     let f = good_events(x);
-    file_line(f);
-    every_position(f, true);
+    file_line(out, f)?;
+    every_position(out, f, true)
 }
 
-pub(crate) fn part(x: &mut usize) {
-    every_short(NUMBER_BYTES, false);
-    every_short(EVENT_BYTES, true);
-    any_files(x);
-    good_file(x);
-    good_file(x);
-    good_file(x);
-    good_file(x);
-    drawn_headers(x);
-    fixed_headers();
+pub(crate) fn part(out: &impl Print, x: &mut usize) -> Result<()> {
+    every_short(out, NUMBER_BYTES, false)?;
+    every_short(out, EVENT_BYTES, true)?;
+    any_files(out, x)?;
+    good_file(out, x)?;
+    good_file(out, x)?;
+    good_file(out, x)?;
+    good_file(out, x)?;
+    drawn_headers(out, x)?;
+    fixed_headers(out)
 }

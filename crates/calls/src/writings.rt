@@ -3,6 +3,7 @@ use crate::drawn::{Case, drawn};
 use crate::file::{ROOM, blank};
 use crate::line::{end, field, word};
 use crate::rows::{COUNT, list, number};
+use std::io::Result;
 use sums::{double, least, less_one, of_bytes, plus, wide};
 
 const KINDS: [u32; 7] = [0, 1, 2, 3, 4, 5, 4_294_967_295];
@@ -23,32 +24,43 @@ const ARGUMENTS: [u32; 10] = [
 const LENT: [usize; 3] = [0, 3, 520];
 
 // An event is written into a part, its line printed, and the count of its bytes given.
-pub(crate) fn event_into(part: &mut [u8], kind: u32, argument: u32) -> usize {
+pub(crate) fn event_into(
+    out: &impl Print,
+    part: &mut [u8],
+    kind: u32,
+    argument: u32,
+) -> Result<usize> {
     let w = drillfile::write_event(part, kind, argument);
-    word(b"w");
-    field(wide(kind));
-    field(wide(argument));
-    field(part.len());
-    field(wide(w.answer));
-    field(w.count);
-    field(of_bytes(part));
-    end();
-    w.count
+    word(out, b"w")?;
+    field(out, wide(kind))?;
+    field(out, wide(argument))?;
+    field(out, part.len())?;
+    field(out, wide(w.answer))?;
+    field(out, w.count)?;
+    field(out, of_bytes(part))?;
+    end(out)?;
+    Ok(w.count)
 }
 
-fn header_into(part: &mut [u8], nodes: usize, destination: usize, list: &[u32]) -> usize {
+fn header_into(
+    out: &impl Print,
+    part: &mut [u8],
+    nodes: usize,
+    destination: usize,
+    list: &[u32],
+) -> Result<usize> {
     let w = drillfile::write_header(part, nodes, destination, list);
-    word(b"h");
-    field(nodes);
-    field(destination);
-    field(list.len());
-    field(part.len());
-    field(wide(w.answer));
-    field(w.place);
-    field(w.count);
-    field(of_bytes(part));
-    end();
-    w.count
+    word(out, b"h")?;
+    field(out, nodes)?;
+    field(out, destination)?;
+    field(out, list.len())?;
+    field(out, part.len())?;
+    field(out, wide(w.answer))?;
+    field(out, w.place)?;
+    field(out, w.count)?;
+    field(out, of_bytes(part))?;
+    end(out)?;
+    Ok(w.count)
 }
 
 fn used(list: &[u32], length: usize) -> &[u32] {
@@ -57,29 +69,32 @@ fn used(list: &[u32], length: usize) -> &[u32] {
 }
 
 // The same of the header of an opening.
-pub(crate) fn case_into(part: &mut [u8], c: Case) -> usize {
-    header_into(part, c.nodes, c.destination, used(&c.list, c.length))
+pub(crate) fn case_into(out: &impl Print, part: &mut [u8], c: Case) -> Result<usize> {
+    header_into(out, part, c.nodes, c.destination, used(&c.list, c.length))
 }
 
-fn event_line(kind: u32, argument: u32, lent: usize) {
+fn event_line(out: &impl Print, kind: u32, argument: u32, lent: usize) -> Result<()> {
     let mut part = blank();
     let n = least(lent, ROOM);
-    event_into(&mut part[0..n], kind, argument);
+    event_into(out, &mut part[0..n], kind, argument)?;
+    Ok(())
 }
 
-fn header_line(c: Case, lent: usize) {
+fn header_line(out: &impl Print, c: Case, lent: usize) -> Result<()> {
     let mut part = blank();
     let n = least(lent, ROOM);
-    case_into(&mut part[0..n], c);
+    case_into(out, &mut part[0..n], c)?;
+    Ok(())
 }
 
 // Each kind with each argument and each length up to 6.
-fn events() {
+fn events(out: &impl Print) -> Result<()> {
     let mut i: usize = 0;
     while i < 490 {
-        event_line(KINDS[i / 70 % 7], ARGUMENTS[i / 7 % 10], i % 7);
+        event_line(out, KINDS[i / 70 % 7], ARGUMENTS[i / 7 % 10], i % 7)?;
         i += 1;
     }
+    Ok(())
 }
 
 fn of_row(i: usize) -> Case {
@@ -92,12 +107,13 @@ fn of_row(i: usize) -> Case {
     }
 }
 
-fn rows() {
+fn rows(out: &impl Print) -> Result<()> {
     let mut i: usize = 0;
     while i < 3 * COUNT {
-        header_line(of_row(i / 3), LENT[i % 3]);
+        header_line(out, of_row(i / 3), LENT[i % 3])?;
         i += 1;
     }
+    Ok(())
 }
 
 // A row of which no number is changed.
@@ -112,50 +128,52 @@ fn plain(nodes: usize, destination: usize, length: usize, modulus: usize) -> Cas
 }
 
 // Every length up to two too many.
-fn small(c: Case) {
+fn small(out: &impl Print, c: Case) -> Result<()> {
     let most = plus(c.length, 6);
     let mut lent: usize = 0;
     while lent < most {
-        header_line(c, lent);
+        header_line(out, c, lent)?;
         lent += 1;
     }
+    Ok(())
 }
 
 // Links of two nodes, with what their header needs.
-fn large(links: usize, need: usize) {
+fn large(out: &impl Print, links: usize, need: usize) -> Result<()> {
     let c = plain(2, 0, double(links), 0);
-    header_line(c, 1);
-    header_line(c, less_one(need));
-    header_line(c, need);
-    header_line(c, plus(need, 1));
-    header_line(c, plus(need, 2));
+    header_line(out, c, 1)?;
+    header_line(out, c, less_one(need))?;
+    header_line(out, c, need)?;
+    header_line(out, c, plus(need, 1))?;
+    header_line(out, c, plus(need, 2))
 }
 
-fn one_drawn(x: &mut usize) {
+fn one_drawn(out: &impl Print, x: &mut usize) -> Result<()> {
     let c = drawn(x);
-    header_line(c, plus(c.length, 2));
-    header_line(c, plus(c.length, 3));
-    header_line(c, plus(c.length, 5));
+    header_line(out, c, plus(c.length, 2))?;
+    header_line(out, c, plus(c.length, 3))?;
+    header_line(out, c, plus(c.length, 5))
 }
 
-fn all_drawn(x: &mut usize) {
+fn all_drawn(out: &impl Print, x: &mut usize) -> Result<()> {
     let mut i: usize = 0;
     while i < 20 {
-        one_drawn(x);
+        one_drawn(out, x)?;
         i += 1;
     }
+    Ok(())
 }
 
-pub(crate) fn part(x: &mut usize) {
-    events();
-    rows();
-    small(plain(1, 0, 0, 0));
-    small(plain(2, 1, 2, 0));
-    small(plain(3, 2, 4, 3));
-    small(plain(64, 63, 6, 64));
-    large(127, 257);
-    large(128, 260);
-    large(255, 514);
-    large(256, 516);
-    all_drawn(x);
+pub(crate) fn part(out: &impl Print, x: &mut usize) -> Result<()> {
+    events(out)?;
+    rows(out)?;
+    small(out, plain(1, 0, 0, 0))?;
+    small(out, plain(2, 1, 2, 0))?;
+    small(out, plain(3, 2, 4, 3))?;
+    small(out, plain(64, 63, 6, 64))?;
+    large(out, 127, 257)?;
+    large(out, 128, 260)?;
+    large(out, 255, 514)?;
+    large(out, 256, 516)?;
+    all_drawn(out, x)
 }

@@ -1,8 +1,10 @@
 // A drill file from standard input, its text to standard output.
+#![tactic(auto)]
+
 ghost use Rattle.std.specs.Prelude.{◌≡◌, ◌+◌, length};
 ghost use Rattle.model.specs.Limits.{file_most, text_most};
 
-use libc::{STDIN_FILENO, STDOUT_FILENO};
+use std::io;
 
 // One byte more than a file may have, so that a longer one is seen.
 const INPUT: usize = model::FILE + 1;
@@ -20,10 +22,10 @@ fn output() -> [u8; model::TEXT_MOST]
     [0; model::TEXT_MOST]
 }
 
-fn main() {
+fn main(rt: HostRuntime) -> io::Result<()> {
     let mut file = input();
-    let n = io::read_full(STDIN_FILENO, &mut file);
+    let n = streams::read_full(&mut rt.stdin(), &mut file)?;
     let mut text = output();
     let length = replay::text(&file[..n], &mut text);
-    io::write_all(STDOUT_FILENO, &text[..length]);
+    rt.write_all(&text[..length])
 }

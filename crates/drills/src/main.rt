@@ -1,11 +1,15 @@
 // The stored drills of data/, each one's text or a short form of it, by the rule of docs/DRILLS.md.
+#![tactic(auto)]
+
 mod show;
 mod sum;
 
 ghost use Rattle.std.specs.Prelude.{◌≡◌, ◌+◌, length};
 ghost use Rattle.model.specs.Limits.{file_most, text_most};
 
-use libc::STDOUT_FILENO;
+use std::fs::File;
+use std::io::{self, ErrorKind, Read};
+use std::rt::Files;
 
 // One byte more than a file may have, so that a longer one is seen.
 const INPUT: usize = model::FILE + 1;
@@ -30,38 +34,40 @@ fn digit(n: usize) -> u8 {
     b'0' + (n % 10) as u8
 }
 
-fn run(fd: i32) {
+fn run(out: &impl Print, from: &mut impl Read) -> io::Result<()> {
     let mut file = input();
-    let n = io::read_full(fd, &mut file);
+    let n = streams::read_full(from, &mut file)?;
     let mut text = output();
     let length = replay::text(&file[..n], &mut text);
-    show::text(&text[..length]);
+    show::text(out, &text[..length])
 }
 
 // The drill of a number; false where its file is missing.
-fn drill(number: usize) -> bool {
-    let a = digit(number / 100);
-    let b = digit(number / 10);
-    let c = digit(number);
-    let fd = os::open_read(&[a, b, c, b'.', b'd', b'r', b'i', b'l', b'l']);
-    if fd < 0 {
-        return false;
+fn drill(rt: &(impl Files + Print + Alloc), number: usize) -> io::Result<bool> {
+    let a = char::from(digit(number / 100));
+    let b = char::from(digit(number / 10));
+    let c = char::from(digit(number));
+    let name = format!(in rt.alloc(); "{a}{b}{c}.drill")?;
+    match File::open(rt, &name) {
+        Ok(mut file) => {
+            println!(rt; "drill {a}{b}{c}")?;
+            run(rt, &mut file)?;
+            Ok(true)
+        }
+        Err(e) if e.kind() == ErrorKind::NotFound => Ok(false),
+        Err(e) => Err(e),
     }
-    io::write_all(STDOUT_FILENO, b"drill ");
-    io::write_all(STDOUT_FILENO, &[a, b, c, b'\n']);
-    run(fd);
-    libc::close(fd);
-    true
 }
 
 // Files by their numbers, up to the first that is missing.
-fn main() {
+fn main(rt: HostRuntime) -> io::Result<()> {
     let mut i: usize = 0;
     while i < MOST {
         let k = i;
         i += 1;
-        if !drill(k) {
-            return;
+        if !drill(&rt, k)? {
+            return Ok(());
         }
     }
+    Ok(())
 }

@@ -2,19 +2,18 @@
 ghost use Rattle.std.specs.Prelude.{◌≤◌, length};
 
 use crate::sum::of_bytes;
-use libc::STDOUT_FILENO;
+use std::io::Result;
 
 // A text of more bytes is shown in short.
 const WHOLE: usize = 1_000;
 
-fn word(w: &[u8]) {
-    io::write_all(STDOUT_FILENO, w);
+fn word(out: &impl Print, w: &[u8]) -> Result<()> {
+    out.write_all(w)
 }
 
 // A space and a number.
-fn field(n: usize) {
-    word(b" ");
-    io::print_decimal(STDOUT_FILENO, n as u64);
+fn field(out: &impl Print, n: usize) -> Result<()> {
+    print!(out; " {n}")
 }
 
 // Where the last two lines start: a line starts behind each newline, and the end is such a start.
@@ -37,15 +36,14 @@ fn last_two(text: &[u8]) -> usize
     first
 }
 
-pub(crate) fn text(bytes: &[u8]) {
+pub(crate) fn text(out: &impl Print, bytes: &[u8]) -> Result<()> {
     if bytes.len() <= WHOLE {
-        word(bytes);
-        return;
+        return word(out, bytes);
     }
-    word(b"long");
-    field(bytes.len());
-    field(of_bytes(bytes));
-    word(b"\n");
+    word(out, b"long")?;
+    field(out, bytes.len())?;
+    field(out, of_bytes(bytes))?;
+    word(out, b"\n")?;
     let from = last_two(bytes);
-    word(&bytes[from..]);
+    word(out, &bytes[from..])
 }

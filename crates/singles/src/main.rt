@@ -1,11 +1,13 @@
 // The events of a drill file, each by a single call in place: a sum of what they gave, for the benchmark.
+#![tactic(auto)]
+
 ghost use Rattle.std.specs.Prelude.{◌≡◌, ◌+◌, length};
 ghost use Rattle.model.specs.Limits.{file_most};
 
 use drillfile::Got;
-use libc::{STDIN_FILENO, STDOUT_FILENO};
 use model::{Handled, Went};
 use network::Network;
+use std::io;
 
 // One byte more than a file may have, as in the program drill.
 const INPUT: usize = model::FILE + 1;
@@ -107,12 +109,11 @@ fn calls(file: &[u8], from: usize, opened: Network) -> usize {
     sum
 }
 
-fn main() {
+fn main(rt: HostRuntime) -> io::Result<()> {
     let mut file = input();
-    let length = io::read_full(STDIN_FILENO, &mut file);
+    let length = streams::read_full(&mut rt.stdin(), &mut file)?;
     let header = reader::header_of(&file[..length]);
     let next = header.next;
     let sum = calls(&file[..length], next.at, header.network);
-    io::print_decimal(STDOUT_FILENO, sum as u64);
-    io::write_all(STDOUT_FILENO, b"\n");
+    println!(rt; "{sum}")
 }

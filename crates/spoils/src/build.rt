@@ -5,7 +5,7 @@ use network::Network;
 use sums::{double, draw, least, less_one, narrow, plus, rest, wide};
 
 // The counts that a record was built with, whatever becomes of it.
-#[derive(Drop)]
+#[derive(Clone, Copy)]
 pub(crate) struct Sizes {
     pub nodes: usize,
     pub links: usize,

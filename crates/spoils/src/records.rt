@@ -5,6 +5,7 @@ use crate::spoil::{SPOILS, spoil};
 use arrays::SLOTS;
 use model::{Handled, Went};
 use network::{Moved, Network};
+use std::io::Result;
 use sums::{HUGE, bit, double, draw, least, of_record, plus, wide, wide16};
 
 const SHAPES: [usize; 8] = [0, 1, 2, 3, 0, 1, 4, 1];
@@ -24,63 +25,65 @@ fn call(r: Network, kind: usize, argument: usize) -> Moved {
     r.fail(argument)
 }
 
-fn letter(kind: usize) {
+fn letter(out: &impl Print, kind: usize) -> Result<()> {
     if kind == 1 {
-        word(b"s");
-        return;
+        return word(out, b"s");
     }
     if kind == 2 {
-        word(b"d");
-        return;
+        return word(out, b"d");
     }
     if kind == 3 {
-        word(b"l");
-        return;
+        return word(out, b"l");
     }
-    word(b"f");
+    word(out, b"f")
 }
 
-fn packet(h: Handled) {
+fn packet(out: &impl Print, h: Handled) -> Result<()> {
     match h {
-        Handled::Packet(n) => field(wide(n)),
-        Handled::Nothing => word(b" -"),
+        Handled::Packet(n) => field(out, wide(n)),
+        Handled::Nothing => word(out, b" -"),
     }
 }
 
-fn way(w: Went) {
+fn way(out: &impl Print, w: Went) -> Result<()> {
     match w {
-        Went::Lane(x) => field(x),
-        Went::Delivered => word(b" in"),
-        Went::Lost => word(b" lost"),
-        Went::Stranded => word(b" end"),
-        Went::Nowhere => word(b" -"),
+        Went::Lane(x) => field(out, x),
+        Went::Delivered => word(out, b" in"),
+        Went::Lost => word(out, b" lost"),
+        Went::Stranded => word(out, b" end"),
+        Went::Nowhere => word(out, b" -"),
     }
 }
 
 // The event is called, and its line printed.
-pub(crate) fn called(r: Network, kind: usize, argument: usize) -> Network {
+pub(crate) fn called(
+    out: &impl Print,
+    r: Network,
+    kind: usize,
+    argument: usize,
+) -> Result<Network> {
     let m = call(r, kind, argument);
     let next = m.network;
     let h = m.handled;
     let w = m.went;
-    letter(kind);
-    field(argument);
-    field(wide(m.answer));
-    packet(h);
-    way(w);
-    field(of_record(next));
-    end();
-    next
+    letter(out, kind)?;
+    field(out, argument)?;
+    field(out, wide(m.answer))?;
+    packet(out, h)?;
+    way(out, w)?;
+    field(out, of_record(next))?;
+    end(out)?;
+    Ok(next)
 }
 
-fn check(r: Network, shape: usize, number: usize) {
+fn check(out: &impl Print, r: Network, shape: usize, number: usize) -> Result<()> {
     let good = r.well_formed();
-    word(b"c");
-    field(shape);
-    field(number);
-    field(bit(!good));
-    field(of_record(r));
-    end();
+    word(out, b"c")?;
+    field(out, shape)?;
+    field(out, number)?;
+    field(out, bit(!good))?;
+    field(out, of_record(r))?;
+    end(out)
 }
 
 // An argument at a bound or far past it.
@@ -125,55 +128,58 @@ fn argument(x: &mut usize, s: Sizes, r: Network, kind: usize) -> usize {
     used_lane(x, &r.lane, most)
 }
 
-fn event(x: &mut usize, s: Sizes, r: Network, kind: usize) -> Network {
+fn event(out: &impl Print, x: &mut usize, s: Sizes, r: Network, kind: usize) -> Result<Network> {
     let a = argument(x, s, r, kind);
-    called(r, kind, a)
+    called(out, r, kind, a)
 }
 
-fn events(x: &mut usize, s: Sizes, r: Network) -> Network {
+fn events(out: &impl Print, x: &mut usize, s: Sizes, r: Network) -> Result<Network> {
     let mut next = r;
     let mut i: usize = 0;
     while i < 16 {
         let t = draw(x, 8);
-        next = event(x, s, next, KINDS[t % 8]);
+        next = event(out, x, s, next, KINDS[t % 8])?;
         i += 1;
     }
-    next
+    Ok(next)
 }
 
-fn good(x: &mut usize, shape: usize) {
+fn good(out: &impl Print, x: &mut usize, shape: usize) -> Result<()> {
     let s = shaped(x, shape);
     let r = build(x, s);
-    check(r, shape, 0);
-    check(events(x, s, r), shape, 0);
+    check(out, r, shape, 0)?;
+    check(out, events(out, x, s, r)?, shape, 0)
 }
 
-fn all_good(x: &mut usize) {
+fn all_good(out: &impl Print, x: &mut usize) -> Result<()> {
     let mut i: usize = 0;
     while i < 40 {
-        good(x, SHAPES[i % 8]);
+        good(out, x, SHAPES[i % 8])?;
         i += 1;
     }
+    Ok(())
 }
 
-fn spoilt(x: &mut usize, shape: usize, number: usize) {
+fn spoilt(out: &impl Print, x: &mut usize, shape: usize, number: usize) -> Result<()> {
     let s = shaped(x, shape);
     let whole = build(x, s);
     let r = spoil(x, s, whole, number);
-    check(r, shape, number);
-    let a = event(x, s, r, 1);
-    let b = event(x, s, a, 2);
-    let c = event(x, s, b, 3);
-    let d = event(x, s, c, 4);
-    event(x, s, d, 2);
+    check(out, r, shape, number)?;
+    let a = event(out, x, s, r, 1)?;
+    let b = event(out, x, s, a, 2)?;
+    let c = event(out, x, s, b, 3)?;
+    let d = event(out, x, s, c, 4)?;
+    event(out, x, s, d, 2)?;
+    Ok(())
 }
 
 // Three shapes, each with every spoil.
-pub(crate) fn part(x: &mut usize) {
-    all_good(x);
+pub(crate) fn part(out: &impl Print, x: &mut usize) -> Result<()> {
+    all_good(out, x)?;
     let mut i: usize = 0;
     while i < 3 * SPOILS {
-        spoilt(x, i / SPOILS, i % SPOILS);
+        spoilt(out, x, i / SPOILS, i % SPOILS)?;
         i += 1;
     }
+    Ok(())
 }
