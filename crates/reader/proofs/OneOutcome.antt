@@ -1,5 +1,5 @@
 -- Two outcomes that a public function's contract allows are equal. `Reads.Post` is the contract as the source states it;
--- a function over a reader has no `Reads`, and the lemma speaks of its clause itself, at every model. Assumes nothing.
+-- for a function that takes or gives a reader the lemma speaks of its clause itself, at every model. Assumes nothing.
 use mathlib.Core.Path.{◌≡◌, sym, ◌∙◌}
 use seplogic.Ra.Ura.{Ura}
 use base.Logic.{ent}

@@ -1,4 +1,6 @@
 // A reader: a view over a file's bytes and a position in it. It holds the slice that it was given and copies nothing.
+#![tactic(auto)]
+
 ghost use Rattle.std.specs.Prelude.{◌≡◌};
 ghost use Rattle.model.specs.File.{read_header};
 ghost use Rattle.entries.specs.Outcomes.{seen, event_at};
@@ -7,7 +9,7 @@ ghost use Rattle.reader.specs.Readers.{reader_at};
 
 use drillfile::{Cursor, Got, Headed, read_event, read_header};
 
-#[derive(Drop)]
+#[derive(Clone, Copy)]
 pub struct Reader<'a> {
     pub file: &'a [u8],
     pub at: usize,
