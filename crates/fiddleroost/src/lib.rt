@@ -1,4 +1,6 @@
 // The static library: what a program in C or Rust can call. include/fiddleroost.h says what such a caller owes.
+#![tactic(auto)]
+
 ghost use Rattle.std.specs.Prelude.{◌≡◌};
 ghost use Rattle.model.specs.Limits.{text_most};
 ghost use Rattle.replay.specs.Texts.{TextPost};

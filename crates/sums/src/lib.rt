@@ -1,4 +1,6 @@
 // What the programs of docs/CALLS.md share: their numbers, the generator, the checksum.
+#![tactic(auto)]
+
 mod generator;
 mod number;
 mod sum;
