@@ -1,4 +1,6 @@
 // A drill file in, the program's whole text out.
+#![tactic(auto)]
+
 mod chunk;
 mod play;
 mod run;
