@@ -6,7 +6,7 @@ use std::io::Result;
 use sums::{of_bytes, of_record, wide};
 
 // The position after what was read, where reading goes on.
-#[derive(Drop)]
+#[derive(Clone, Copy)]
 pub(crate) enum After {
     At(usize),
     Nothing,

@@ -7,7 +7,7 @@ use arrays::Tally;
 use model::{Handled, Went};
 
 // What an event gives beside the arrays that it changed.
-#[derive(Drop)]
+#[derive(Clone, Copy)]
 pub struct Step {
     pub tally: Tally,
     pub answer: u32,

@@ -3,7 +3,7 @@ use entries::Cursor;
 use network::Network;
 
 // A header that was read: the opened record, the answer number, its place, and the position after.
-#[derive(Drop)]
+#[derive(Clone, Copy)]
 pub struct Headed {
     pub network: Network,
     pub answer: u32,

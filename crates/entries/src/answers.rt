@@ -3,13 +3,13 @@ ghost use Rattle.std.specs.Prelude.{◌≡◌};
 ghost use Rattle.entries.specs.Outcomes.{refusal};
 
 // A position in a file.
-#[derive(Drop)]
+#[derive(Clone, Copy)]
 pub struct Cursor {
     pub at: usize,
 }
 
 // An event that was read; the end of the file; or the place of what is spoilt. Each with the position after.
-#[derive(Drop)]
+#[derive(Clone, Copy)]
 pub enum Got {
     Event {
         kind: u32,
@@ -21,7 +21,7 @@ pub enum Got {
 }
 
 // The answer number of a writing, its place, and how many bytes were written.
-#[derive(Drop)]
+#[derive(Clone, Copy)]
 pub struct Written {
     pub answer: u32,
     pub place: usize,

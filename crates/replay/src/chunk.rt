@@ -9,14 +9,14 @@ use letters::THOUSAND;
 pub(crate) const CHUNK: usize = THOUSAND;
 
 // Why no more events were read.
-#[derive(Drop)]
+#[derive(Clone, Copy)]
 pub(crate) enum Stop {
     More,
     End,
     Spoilt(usize),
 }
 
-#[derive(Drop)]
+#[derive(Clone, Copy)]
 pub(crate) struct Gathered {
     pub count: usize,
     pub next: usize,

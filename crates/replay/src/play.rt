@@ -12,7 +12,7 @@ use lines::event;
 use network::Network;
 
 // The record after a chunk, and the position after its lines.
-#[derive(Drop)]
+#[derive(Clone, Copy)]
 pub(crate) struct Played {
     pub network: Network,
     pub next: usize,

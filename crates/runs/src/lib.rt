@@ -22,7 +22,7 @@ fn index(x: u32) -> usize
 }
 
 // What a run of events leaves beside the arrays: the counts, and how many slots are in use.
-#[derive(Drop)]
+#[derive(Clone, Copy)]
 pub struct Ran {
     pub tally: Tally,
     pub used: usize,

@@ -382,7 +382,7 @@ fn spoil_unused(s: Sizes, r: Network, number: usize) -> Network {
 }
 
 // What was drawn for the spoiling: an end, a packet, a node.
-#[derive(Drop)]
+#[derive(Clone, Copy)]
 struct Drawn {
     end: usize,
     packet: usize,

@@ -8,7 +8,7 @@ ghost use Rattle.arrays.specs.View.{ends_seen, end_at, way_out_of, Threaded, Cha
 use crate::search::way_out;
 use arrays::wide;
 
-#[derive(Drop)]
+#[derive(Clone, Copy)]
 pub struct Threads {
     pub heads: [u16; model::NODES],
     pub next: [u16; model::ENDS],
