@@ -86,19 +86,19 @@ length-tab f zero = refl
 length-tab f (suc n) = ap suc (length-tab (λ i. f (suc i)) n)
 
 -- entries in use, and past them
-pub used-in {ℓ} : {A : Type ℓ} (k : ℕ) (d : A) (xs : List A) (i : ℕ) → i < k → used k d xs i ≡ get_or xs i d
+pub used_in {ℓ} : {A : Type ℓ} (k : ℕ) (d : A) (xs : List A) (i : ℕ) → i < k → used k d xs i ≡ get_or xs i d
 unfolding used
-used-in k d xs i h = rw (lt-ltb i k h)
+used_in k d xs i h = rw (lt-ltb i k h)
 
-pub used-out {ℓ} : {A : Type ℓ} (k : ℕ) (d : A) (xs : List A) (i : ℕ) → k ≤ i → used k d xs i ≡ d
+pub used_out {ℓ} : {A : Type ℓ} (k : ℕ) (d : A) (xs : List A) (i : ℕ) → k ≤ i → used k d xs i ≡ d
 unfolding used
-used-out k d xs i h = rw (le-ltb i k h)
+used_out k d xs i h = rw (le-ltb i k h)
 
-pub used-is {ℓ} : {A : Type ℓ} (k : ℕ) (d : A) (xs : List A) (f : ℕ → A) → ((i : ℕ) → i < k → get_or xs i d ≡ f i) → ((i : ℕ) → k ≤ i → d ≡ f i)
+pub used_is {ℓ} : {A : Type ℓ} (k : ℕ) (d : A) (xs : List A) (f : ℕ → A) → ((i : ℕ) → i < k → get_or xs i d ≡ f i) → ((i : ℕ) → k ≤ i → d ≡ f i)
     → used k d xs ≡ f
-used-is k d xs f p q = fun_ext (λ i. elim (look (ltb i k)) [
-  | inl e ↦ used-in k d xs i (ltb-true i k e) ∙ p i (ltb-true i k e)
-  | inr e ↦ used-out k d xs i (ltb-false i k e) ∙ q i (ltb-false i k e)
+used_is k d xs f p q = fun_ext (λ i. elim (look (ltb i k)) [
+  | inl e ↦ used_in k d xs i (ltb-true i k e) ∙ p i (ltb-true i k e)
+  | inr e ↦ used_out k d xs i (ltb-false i k e) ∙ q i (ltb-false i k e)
 ])
 
 -- a function's first values as a list

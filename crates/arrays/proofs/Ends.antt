@@ -11,7 +11,7 @@ use Rattle.model.specs.Below.{any, first}
 use Rattle.model.proofs.Below.{any_false}
 use Rattle.model.specs.Departure.{live_at, out_at, mark_at, out_link, out_end}
 use Rattle.arrays.specs.View.{ends_seen}
-use Rattle.arrays.proofs.Below.{used-in}
+use Rattle.arrays.proofs.Below.{used_in}
 use Rattle.arrays.proofs.Searches.{first_start, first_skip}
 
 between : (a b c : Bool) → (a && c) ≡ false → (a && b && c) ≡ false
@@ -25,13 +25,13 @@ module _ (links : ℕ) (node : List ℕ) (live out local mark : List Bool) (v : 
 
   module _ (x : ℕ) (h : x < 2 * links) where
     pub live_is : (eqb (get_or node x 0) v && get_or live (x / 2) false) ≡ live_at S v x
-    live_is = rw (used-in (2 * links) 0 node x h, used-in links false live (x / 2) (omega arith))
+    live_is = rw (used_in (2 * links) 0 node x h, used_in links false live (x / 2) (omega arith))
 
     pub out_is : (eqb (get_or node x 0) v && get_or live (x / 2) false && get_or out x false) ≡ out_at S v x
-    out_is = rw (live_is, used-in (2 * links) false out x h)
+    out_is = rw (live_is, used_in (2 * links) false out x h)
 
     pub mark_is : (eqb (get_or node x 0) v && get_or mark x false) ≡ mark_at S v x
-    mark_is = rw (used-in (2 * links) 0 node x h, used-in (2 * links) false mark x h)
+    mark_is = rw (used_in (2 * links) 0 node x h, used_in (2 * links) false mark x h)
 
   -- the test of the code at link l
   module _ (l : ℕ) (h : l < links) where

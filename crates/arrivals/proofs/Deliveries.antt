@@ -19,7 +19,7 @@ use Rattle.model.specs.Lanes.{taken}
 use Rattle.model.specs.Deliver.{news, arrives}
 use Rattle.model.proofs.Below.{look, any_here}
 use Rattle.arrays.specs.View.{used, ends_of, state_of}
-use Rattle.arrays.proofs.Below.{used-in, used-is, used-out}
+use Rattle.arrays.proofs.Below.{used_in, used_is, used_out}
 use Rattle.arrivals.specs.Landing.{landed}
 
 -- news is a bit other than the remote one
@@ -105,14 +105,14 @@ module _ (net : Net) (live out local remote mark : List Bool) (turns : List ℕ)
   K = 2 * net.links
 
   out_news : used K false (set out y false) ≡ (λ x. cond (eqb x y) false (used K false out x))
-  out_news = used-is K false (set out y false) _ (λ x h. rw (used-in K false out x h) (go x (look (eqb x y)))) (λ x h. rw (used-out K false out x h, ne_eqb x y (λ e. omega arith)))
+  out_news = used_is K false (set out y false) _ (λ x h. rw (used_in K false out x h) (go x (look (eqb x y)))) (λ x h. rw (used_out K false out x h, ne_eqb x y (λ e. omega arith)))
     where
       go : (x : ℕ) → (eqb x y ≡ true) ⊎ (eqb x y ≡ false) → get_or (set out y false) x false ≡ cond (eqb x y) false (get_or out x false)
       go x (inl e) = rw (e, eqb-true x y e) (get_or-set_same out y false false (omega arith))
       go x (inr e) = rw e (get_or-set_other out y x false false (eqb-false x y e))
 
   remote_news : used K false (set remote y (not (get_or remote y false))) ≡ (λ x. cond (eqb x y) (not (used K false remote x)) (used K false remote x))
-  remote_news = used-is K false (set remote y (not (get_or remote y false))) _ (λ x h. rw (used-in K false remote x h) (go x (look (eqb x y)))) (λ x h. rw (used-out K false remote x h, ne_eqb x y (λ e. omega arith)))
+  remote_news = used_is K false (set remote y (not (get_or remote y false))) _ (λ x h. rw (used_in K false remote x h) (go x (look (eqb x y)))) (λ x h. rw (used_out K false remote x h, ne_eqb x y (λ e. omega arith)))
     where
       go : (x : ℕ) → (eqb x y ≡ true) ⊎ (eqb x y ≡ false) → get_or (set remote y (not (get_or remote y false))) x false ≡ cond (eqb x y) (not (get_or remote x false)) (get_or remote x false)
       go x (inl e) = rw (e, eqb-true x y e) (get_or-set_same remote y (not (get_or remote y false)) false (omega arith))

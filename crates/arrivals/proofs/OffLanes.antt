@@ -23,7 +23,7 @@ use Rattle.arrays.specs.declared.Tally.{Tally}
 use Rattle.arrays.specs.declared.Told.{Told}
 use Rattle.arrays.specs.View.{used, net_of, state_of}
 use Rattle.arrays.specs.Told.{oldest_in, without, passed}
-use Rattle.arrays.proofs.Below.{used-in}
+use Rattle.arrays.proofs.Below.{used_in}
 use Rattle.departs.specs.declared.tally.Step.{Step}
 use Rattle.arrivals.specs.Lanes.{refused}
 use Rattle.departs.specs.Steps.{state_with, outcome_of}
@@ -111,7 +111,7 @@ module _ (live : List Bool) (links x : ℕ) (told : Told) (node : List ℕ) (end
 
   module _ (t : told ≡ oldest_in (on_lane x flight)) (formed : well_formed shown ≡ true) (room : counts.events < events_most) (f : Packet → Outcome) where
     is_live : (b : Bool) → x < 2 * links → get_or live (x / 2) false ≡ b → used links false live (x / 2) ≡ b
-    is_live b h u = used-in links false live (x / 2) (omega arith) ∙ u
+    is_live b h u = used_in links false live (x / 2) (omega arith) ∙ u
 
     -- refused for the reason that the search gave
     pub off_refused : {answer : ℕ} → answer ≡ refused live links x told.there → (answer ≡ answers.done → ⊥) → refuse shown answer ≡ off_lane shown x f

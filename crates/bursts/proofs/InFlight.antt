@@ -14,7 +14,7 @@ use Rattle.queues.specs.Queue.{standing, flown}
 use Rattle.slots.proofs.Gathered.{standing_all}
 use Rattle.departs.specs.Steps.{state_with}
 use Rattle.departs.proofs.Sounds.{few_fly}
-use Rattle.lent.proofs.InPlace.{lanes_named as on-lanes}
+use Rattle.lent.proofs.InPlace.{lanes_named as on_lanes}
 use Rattle.network.specs.declared.record.Network.{Network}
 use Rattle.network.specs.View.{tally_of, view}
 use Rattle.notes.specs.Bursts.{calls}
@@ -23,7 +23,7 @@ use Rattle.network.proofs.Seen.{arrays_of}
 
 -- each packet in flight is on a lane
 pub lanes_named : (n : Network) → well_formed (view n) ≡ true → (i : ℕ) → i < n.flying → get_or n.lane i 0 < ends_most
-lanes_named n e = on-lanes n.node n.nodes n.destination n.links (arrays_of n) (tally_of n) e
+lanes_named n e = on_lanes n.node n.nodes n.destination n.links (arrays_of n) (tally_of n) e
 
 -- spread over slots, all of them stand: a reader sees the record
 pub spread_seen : (n : Network) {t : Tally} (numbers lanes : List ℕ) (bits : List Bool) → t ≡ tally_of n → well_formed (view n) ≡ true

@@ -16,7 +16,7 @@ use Rattle.model.proofs.Ends.{which_end}
 use Rattle.model.proofs.Formed.{formed_if}
 use Rattle.arrays.specs.declared.Tally.{Tally}
 use Rattle.arrays.specs.View.{used}
-use Rattle.arrays.proofs.Below.{used-in}
+use Rattle.arrays.proofs.Below.{used_in}
 use Rattle.departs.specs.Steps.{state_with, Sound}
 
 pub record Sizes (nodes destination links : ℕ) : Type 0 where
@@ -40,7 +40,7 @@ two n a b e =
 
 module _ (node : List ℕ) (live out local remote mark : List Bool) (turns : List ℕ) (nodes destination links : ℕ) (flight : List Packet) (t : Tally) where
   node_of : (l e : ℕ) → l < links → e < 2 → (b : ℕ) → used (2 * links) 0 node (2 * l + e) < b → get_or node (2 * l + e) 0 < b
-  node_of l e h k b p = subst (λ m. m < b) (used-in (2 * links) 0 node (2 * l + e) (omega arith)) p
+  node_of l e h k b p = subst (λ m. m < b) (used_in (2 * links) 0 node (2 * l + e) (omega arith)) p
 
   pub sound_if : length flight ≡ t.flying → well_formed (state_with node live out local remote mark turns nodes destination links flight t) ≡ true
       → Sound node live mark turns nodes destination links t
@@ -61,8 +61,8 @@ module _ (node : List ℕ) (live out local remote mark : List Bool) (turns : Lis
           stranded = omega (arith, f.sum, f.fewer);
         };
         named = λ x h. named f.net.links x h (which_end x);
-        marks = λ x h m. sym (used-in links false live (x / 2) (omega arith)) ∙ (f.marked x h (used-in (2 * links) false mark x h ∙ m)).1;
-        turned = λ v h. omega (arith, f.turned v h, used-in nodes 0 turns v h);
+        marks = λ x h m. sym (used_in links false live (x / 2) (omega arith)) ∙ (f.marked x h (used_in (2 * links) false mark x h ∙ m)).1;
+        turned = λ v h. omega (arith, f.turned v h, used_in nodes 0 turns v h);
       }
     where
       named : ((l : ℕ) → l < links → joins nodes (used (2 * links) 0 node (end l 0)) (used (2 * links) 0 node (end l 1)) ≡ true)
@@ -80,7 +80,7 @@ pub joins_two : (node : List ℕ) (live out local remote mark : List Bool) (turn
 joins_two node live out local remote mark turns nodes destination links flight t e l h q =
     let none : 2 * l + 0 ≡ 2 * l = omega arith in
     differ nodes _ _ ((formed_if (state_with node live out local remote mark turns nodes destination links flight t) e).net.links l h)
-    (rw none (used-in (2 * links) 0 node (2 * l) (omega arith) ∙ q ∙ sym (used-in (2 * links) 0 node (2 * l + 1) (omega arith))))
+    (rw none (used_in (2 * links) 0 node (2 * l) (omega arith) ∙ q ∙ sym (used_in (2 * links) 0 node (2 * l + 1) (omega arith))))
 
 -- no more packets are in flight than may be
 pub few_fly : (s : State) → well_formed s ≡ true → length s.flight ≤ flight_most

@@ -13,7 +13,7 @@ use Rattle.model.specs.Departure.{pass}
 use Rattle.model.specs.Outcome.{counted, gives, leaves}
 use Rattle.arrays.specs.declared.Tally.{Tally}
 use Rattle.arrays.specs.Told.{passed_by, passed}
-use Rattle.arrays.proofs.Below.{used-in}
+use Rattle.arrays.proofs.Below.{used_in}
 use Rattle.departs.specs.declared.tally.Step.{Step}
 use Rattle.departs.specs.Steps.{state_with, outcome_of, tally_after, Still}
 
@@ -37,7 +37,7 @@ module _ (node : List ℕ) (live out local remote mark : List Bool) (turns : Lis
         → outcome_of (state_with node live out local remote mark turns nodes destination links (passed local flight r.handled r.went) r.tally) r
         ≡ leaves (state_with node live out local remote mark turns nodes destination links flight t) x n
     unfolding pass
-    done_leaves {x = x} q h = rw (q, used-in (2 * links) false local x h)
+    done_leaves {x = x} q h = rw (q, used_in (2 * links) false local x h)
 
     -- none was
     pub bare_stays : {answer : ℕ} → r ≡ record { tally = t; answer = answer; handled = handled.Nothing; went = went.Nowhere }

@@ -18,7 +18,7 @@ use Rattle.model.proofs.Below.{look}
 use Rattle.arrays.specs.declared.Tally.{Tally}
 use Rattle.arrays.specs.View.{used, net_of, counts_of, ends_seen, way_out_of}
 use Rattle.turning.specs.Turned.{Turned}
-use Rattle.arrays.proofs.Below.{used-in, used-is, used-out}
+use Rattle.arrays.proofs.Below.{used_in, used_is, used_out}
 use Rattle.departs.specs.Steps.{state_with}
 
 -- ---- a node has a way out exactly if the search finds one
@@ -57,9 +57,9 @@ turn_is node live out local remote mark turns nodes destination links flight t v
   where
     counted : used nodes 0 (set turns v (get_or turns v 0 + 1)) ≡ (λ u. cond (eqb u v) (suc (used nodes 0 turns u)) (used nodes 0 turns u))
     counted =
-        used-is nodes 0 (set turns v (get_or turns v 0 + 1)) _
-        (λ u k. rw (used-in nodes 0 turns u k) (go u (look (eqb u v))))
-        (λ u k. rw (used-out nodes 0 turns u k, ne_eqb u v (λ e. omega arith)))
+        used_is nodes 0 (set turns v (get_or turns v 0 + 1)) _
+        (λ u k. rw (used_in nodes 0 turns u k) (go u (look (eqb u v))))
+        (λ u k. rw (used_out nodes 0 turns u k, ne_eqb u v (λ e. omega arith)))
       where
         go : (u : ℕ) → (eqb u v ≡ true) ⊎ (eqb u v ≡ false)
             → get_or (set turns v (get_or turns v 0 + 1)) u 0 ≡ cond (eqb u v) (suc (get_or turns u 0)) (get_or turns u 0)

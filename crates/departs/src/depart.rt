@@ -3,7 +3,7 @@ ghost use Rattle.std.specs.Prelude.{◌≡◌, Bool, true, List, ℕ, ◌*◌, �
 ghost use Rattle.model.specs.Limits.{links_most, nodes_most, events_most};
 ghost use Rattle.model.specs.State.{Packet};
 ghost use Rattle.model.specs.Departure.{has_live, has_out, turn as turn_of};
-ghost use Rattle.model.specs.Outcome.{leaves, leaves_by, onward as onwardOf};
+ghost use Rattle.model.specs.Outcome.{leaves, leaves_by, onward as onward_of};
 ghost use Rattle.arrays.specs.declared.Tally.{Tally};
 ghost use Rattle.arrays.specs.View.{ends_seen};
 ghost use Rattle.departs.specs.Steps.{state_with, Room, Chained, MarksLive};
@@ -49,7 +49,7 @@ pub fn onward<'a>(
     v: usize,
 ) -> usize
     requires { (links ≤ links_most) × (nodes ≤ nodes_most) × (v < nodes) × (get_or turns.old v 0 ≤ events_most) × (has_live (ends_seen links node.now live.now out.old local.old mark.old) v ≡ true) × Room out.old local.old mark.old turns.old × Chained chained links node.now heads.now next.now × MarksLive links live.now mark.old }
-    ensures { ((remote : List Bool) (destination : ℕ) (flight : List Packet) (t : Tally) (n : ℕ) → leaves (state_with node.now live.now out.new local.new remote mark.new turns.new nodes destination links flight t) result n ≡ onwardOf (state_with node.now live.now out.old local.old remote mark.old turns.old nodes destination links flight t) v n) × (result < 2 * links) × Room out.new local.new mark.new turns.new }
+    ensures { ((remote : List Bool) (destination : ℕ) (flight : List Packet) (t : Tally) (n : ℕ) → leaves (state_with node.now live.now out.new local.new remote mark.new turns.new nodes destination links flight t) result n ≡ onward_of (state_with node.now live.now out.old local.old remote mark.old turns.old nodes destination links flight t) v n) × (result < 2 * links) × Room out.new local.new mark.new turns.new }
 {
     let x = way(node, heads, next, chained, live, out, links, v);
     if 2 * links <= x {

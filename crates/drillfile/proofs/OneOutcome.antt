@@ -11,10 +11,10 @@ use Rattle.model.specs.File.{Header}
 use Rattle.entries.proofs.OneOutcome.{written_back}
 use Rattle.drillfile.specs.declared.answers.Headed.{Headed}
 use Rattle.drillfile.specs.Headers.{seen_header, HeaderPost}
-use Rattle.drillfile.proofs.read_header.Kinds as read-header-kinds
-use Rattle.drillfile.proofs.read_header.Reads as read-header
-use Rattle.drillfile.proofs.write_header.Kinds as write-header-kinds
-use Rattle.drillfile.proofs.write_header.Reads as write-header
+use Rattle.drillfile.proofs.read_header.Kinds as read_header_kinds
+use Rattle.drillfile.proofs.read_header.Reads as read_header_reads
+use Rattle.drillfile.proofs.write_header.Kinds as write_header_kinds
+use Rattle.drillfile.proofs.write_header.Reads as write_header_reads
 
 -- What a reader sees of a header is the same; and a refusal, to its last entry.
 abbrev pub Same : Headed → Headed → Type 0
@@ -33,12 +33,12 @@ header_same r r' p q =
       },
     )
 
-pub read_header_one : (κs : Lfts 1) (a : Dens κs read-header-kinds.ps) (r r' : Headed)
-    (x x' : AtExit (ended_of 1 read-header-kinds.ps read-header-kinds.r) κs)
-    → read-header.Post κs a r x → read-header.Post κs a r' x' → Same r r'
+pub read_header_one : (κs : Lfts 1) (a : Dens κs read_header_kinds.ps) (r r' : Headed)
+    (x x' : AtExit (ended_of 1 read_header_kinds.ps read_header_kinds.r) κs)
+    → read_header_reads.Post κs a r x → read_header_reads.Post κs a r' x' → Same r r'
 read_header_one κs a r r' x x' = header_same r r'
 
-pub write_header_one : (κs : Lfts 2) (a : Dens κs write-header-kinds.ps) (r r' : (res_t write-header-kinds.r κs).Denot)
-    (x x' : AtExit (ended_of 2 write-header-kinds.ps write-header-kinds.r) κs)
-    → write-header.Post κs a r x → write-header.Post κs a r' x' → (r ≡ r') × (x.0.now ≡ x'.0.now)
+pub write_header_one : (κs : Lfts 2) (a : Dens κs write_header_kinds.ps) (r r' : (res_t write_header_kinds.r κs).Denot)
+    (x x' : AtExit (ended_of 2 write_header_kinds.ps write_header_kinds.r) κs)
+    → write_header_reads.Post κs a r x → write_header_reads.Post κs a r' x' → (r ≡ r') × (x.0.now ≡ x'.0.now)
 write_header_one κs a r r' x x' p q = written_back (p ∙ sym q)

@@ -4,7 +4,7 @@
 mod show;
 mod sum;
 
-ghost use Rattle.std.specs.Prelude.{◌≡◌, ◌+◌, length};
+ghost use Rattle.std.specs.Prelude.{◌≡◌, ◌+◌, ◌<◌, length};
 ghost use Rattle.model.specs.Limits.{file_most, text_most};
 
 use std::fs::File;
@@ -30,7 +30,9 @@ fn output() -> [u8; model::TEXT_MOST]
     [0; model::TEXT_MOST]
 }
 
-fn digit(n: usize) -> u8 {
+fn digit(n: usize) -> u8
+    ensures { result < 128 }
+{
     b'0' + (n % 10) as u8
 }
 
@@ -43,14 +45,16 @@ fn run(out: &impl Print, from: &mut impl Read) -> io::Result<()> {
 }
 
 // The drill of a number; false where its file is missing.
-fn drill(rt: &(impl Files + Print + Alloc), number: usize) -> io::Result<bool> {
-    let a = char::from(digit(number / 100));
-    let b = char::from(digit(number / 10));
-    let c = char::from(digit(number));
-    let name = format!(in rt.alloc(); "{a}{b}{c}.drill")?;
-    match File::open(rt, &name) {
+fn drill(rt: &(impl Files + Print), number: usize) -> io::Result<bool> {
+    let a = digit(number / 100);
+    let b = digit(number / 10);
+    let c = digit(number);
+    let bytes = [a, b, c, b'.', b'd', b'r', b'i', b'l', b'l'];
+    let name = str::from_utf8(&bytes).unwrap();
+    match File::open(rt, name) {
         Ok(mut file) => {
-            println!(rt; "drill {a}{b}{c}")?;
+            rt.write_all(b"drill ")?;
+            rt.write_all(&[a, b, c, b'\n'])?;
             run(rt, &mut file)?;
             Ok(true)
         }

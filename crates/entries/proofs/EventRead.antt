@@ -51,17 +51,17 @@ module _ (file : List ℕ) (from : Cursor) where
       unfolding event_at read_event
       unknown_kind e = rw (lt-leb (length file) from.at here, as_had file from.at k middle read q, known_not (of_kind k) e)
 
-      module _ (e : known (of_kind k) ≡ true) {argument : Number} (read-argument : number_of argument ≡ read_number file middle) where
+      module _ (e : known (of_kind k) ≡ true) {argument : Number} (read_argument : number_of argument ≡ read_number file middle) where
         pub no_argument : (place : ℕ) → argument ≡ Spoilt place → seen (got.Spoilt middle from) ≡ event_at file from.at
         unfolding event_at read_event
         no_argument place f =
             let r = as_had file from.at k middle read q in
             let m = number_moves file from.at k middle r in
-            rw (lt-leb (length file) from.at here, r, (known_makes (of_kind k) e).1, as_spoilt file middle place m.1 read-argument f)
+            rw (lt-leb (length file) from.at here, r, (known_makes (of_kind k) e).1, as_spoilt file middle place m.1 read_argument f)
 
         pub whole : (a next : ℕ) → argument ≡ Value a next → seen (got.Event k a (record { at = next })) ≡ event_at file from.at
         unfolding event_at read_event
         whole a next f =
             let m = known_makes (of_kind k) e in
             let own = kind_made k m.0 a m.1 in
-            rw (lt-leb (length file) from.at here, as_had file from.at k middle read q, m.1, as_had file middle a next read-argument f, own.0, own.1)
+            rw (lt-leb (length file) from.at here, as_had file from.at k middle read q, m.1, as_had file middle a next read_argument f, own.0, own.1)

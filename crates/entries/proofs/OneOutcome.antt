@@ -15,10 +15,10 @@ use Rattle.entries.specs.declared.answers.Got.{Got}
 use Rattle.entries.specs.declared.answers.Got.TheVariants as got
 use Rattle.entries.specs.declared.answers.Written.{Written}
 use Rattle.entries.specs.Outcomes.{Seen, seen, holding}
-use Rattle.entries.proofs.read_event.Kinds as read-event-kinds
-use Rattle.entries.proofs.read_event.Reads as read-event
-use Rattle.entries.proofs.write_event.Kinds as write-event-kinds
-use Rattle.entries.proofs.write_event.Reads as write-event
+use Rattle.entries.proofs.read_event.Kinds as read_event_kinds
+use Rattle.entries.proofs.read_event.Reads as read_event_reads
+use Rattle.entries.proofs.write_event.Kinds as write_event_kinds
+use Rattle.entries.proofs.write_event.Reads as write_event_reads
 
 -- an answer can be told from what it stands for
 abbrev got_of : Seen → Got
@@ -42,10 +42,10 @@ pub written_back : {w w' : Written} {part part' : List ℕ} → holding w part �
 written_back e =
     (λ i. record { answer = (e i).answer; place = (e i).place; count = (e i).count }, ap (λ o. o.part) e)
 
-pub read_event_one : OneAnswer 1 read-event-kinds.ps read-event-kinds.r read-event.Post
+pub read_event_one : OneAnswer 1 read_event_kinds.ps read_event_kinds.r read_event_reads.Post
 read_event_one κs a r r' x x' = got_same r r'
 
-pub write_event_one : (κs : Lfts 1) (a : Dens κs write-event-kinds.ps) (r r' : (res_t write-event-kinds.r κs).Denot)
-    (x x' : AtExit (ended_of 1 write-event-kinds.ps write-event-kinds.r) κs)
-    → write-event.Post κs a r x → write-event.Post κs a r' x' → (r ≡ r') × (x.0.now ≡ x'.0.now)
+pub write_event_one : (κs : Lfts 1) (a : Dens κs write_event_kinds.ps) (r r' : (res_t write_event_kinds.r κs).Denot)
+    (x x' : AtExit (ended_of 1 write_event_kinds.ps write_event_kinds.r) κs)
+    → write_event_reads.Post κs a r x → write_event_reads.Post κs a r' x' → (r ≡ r') × (x.0.now ≡ x'.0.now)
 write_event_one κs a r r' x x' p q = written_back (p ∙ sym q)

@@ -4,10 +4,10 @@ use mathlib.Core.Path.{◌≡◌, sym, ◌∙◌}
 use contract.Lifetimes.{Lfts}
 use denote.Triple.Clauses.{AtExit}
 use borrow.Fn.Kinds.{Dens, res_t, ended_of}
-use Rattle.fiddleroost.proofs.fiddleroost_text.Kinds as text-kinds
+use Rattle.fiddleroost.proofs.fiddleroost_text.Kinds as text_kinds
 use Rattle.fiddleroost.proofs.fiddleroost_text.Reads as text
 
-pub text_one : (κs : Lfts 2) (a : Dens κs text-kinds.ps) (r r' : (res_t text-kinds.r κs).Denot)
-    (x x' : AtExit (ended_of 2 text-kinds.ps text-kinds.r) κs)
+pub text_one : (κs : Lfts 2) (a : Dens κs text_kinds.ps) (r r' : (res_t text_kinds.r κs).Denot)
+    (x x' : AtExit (ended_of 2 text_kinds.ps text_kinds.r) κs)
     → text.Post κs a r x → text.Post κs a r' x' → (r ≡ r') × (x.1.0.now ≡ x'.1.0.now)
 text_one κs a r r' x x' p q = (p.count ∙ sym q.count, p.bytes ∙ sym q.bytes)

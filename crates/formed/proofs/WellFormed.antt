@@ -16,7 +16,7 @@ use Rattle.model.proofs.Below.{clash, and_both, any_false}
 use Rattle.arrays.specs.declared.Tally.{Tally}
 use Rattle.arrays.specs.View.{used, net_of, ends_of, packet_at, counts_of, state_of}
 use Rattle.over.specs.Formed.{tallied}
-use Rattle.arrays.proofs.Below.{not_leb, not_ltb, all_not_any, any_same, any_never, any_or, any_pairs, all_head, length-tab, used-in}
+use Rattle.arrays.proofs.Below.{not_leb, not_ltb, all_not_any, any_same, any_never, any_or, any_pairs, all_head, length-tab, used_in}
 
 -- ---- packets
 pub packets_tab : (s : State) (f : ℕ → Packet) (n : ℕ) → packets_formed s (tab f n) ≡ all (λ i. packet_formed s (f i)) n
@@ -84,7 +84,7 @@ module _ (node : List ℕ) (live out mark : List Bool) (turns number lane : List
   broken i = not (whole shown (get_or lane i 0))
 
   node_at : (x y : ℕ) → x ≡ y → y < 2 * links → shown.net.node x ≡ get_or node y 0
-  node_at x y e h = ap (used (2 * links) 0 node) e ∙ used-in (2 * links) 0 node y h
+  node_at x y e h = ap (used (2 * links) 0 node) e ∙ used_in (2 * links) 0 node y h
 
   joins_not : (a b c : Bool) → (not a && not b && not c) ≡ not ((a || b) || c)
   joins_not true b c = refl
@@ -106,7 +106,7 @@ module _ (node : List ℕ) (live out mark : List Bool) (turns number lane : List
 
   pub turns_are : all (turns_formed shown) nodes ≡ not (any turns_over nodes)
   unfolding turns_formed
-  turns_are = all_not_any (turns_formed shown) turns_over nodes (λ v h. rw (used-in nodes 0 turns v h) (not_ltb (get_or turns v 0) t.events))
+  turns_are = all_not_any (turns_formed shown) turns_over nodes (λ v h. rw (used_in nodes 0 turns v h) (not_ltb (get_or turns v 0) t.events))
 
   ends_not : (m o l : Bool) → (not m || not o && l) ≡ not ((o && m) || (not l && m))
   ends_not true true l = refl
@@ -123,7 +123,7 @@ module _ (node : List ℕ) (live out mark : List Bool) (turns number lane : List
   end_is : (x : ℕ) → x < 2 * links → end_formed shown x ≡ not (out_marked x || down_end x)
   unfolding end_formed
   end_is x h =
-      rw (used-in (2 * links) false mark x h, used-in (2 * links) false out x h, used-in links false live (x / 2) (omega arith))
+      rw (used_in (2 * links) false mark x h, used_in (2 * links) false out x h, used_in links false live (x / 2) (omega arith))
       (ends_not (get_or mark x false) (get_or out x false) (get_or live (x / 2) false))
 
   -- two marks of one link
@@ -174,7 +174,7 @@ module _ (node : List ℕ) (live out mark : List Bool) (turns number lane : List
   unfolding whole opp
   whole_is x h =
       let e : ((x + 1) - 2 * (x % 2)) / 2 ≡ x / 2 = omega arith in
-      rw (e, used-in links false live (x / 2) (omega arith)) (ap not (and_self (get_or live (x / 2) false)))
+      rw (e, used_in links false live (x / 2) (omega arith)) (ap not (and_self (get_or live (x / 2) false)))
 
   pub broken_is : any lane_over t.flying ≡ false → any broken t.flying ≡ any lane_down t.flying
   broken_is e =

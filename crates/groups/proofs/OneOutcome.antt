@@ -13,9 +13,9 @@ use Rattle.groups.specs.declared.answers.Number.TheVariants.{Value, Spoilt}
 use Rattle.groups.specs.declared.answers.Groups.{Groups}
 use Rattle.groups.specs.declared.answers.Groups.TheVariants.{One, Two, Three, TooLarge}
 use Rattle.groups.specs.Numbers.{number_of, bytes_of}
-use Rattle.groups.proofs.read_number.Kinds as read-number-kinds
+use Rattle.groups.proofs.read_number.Kinds as read_number_kinds
 use Rattle.groups.proofs.read_number.Reads as read_number
-use Rattle.groups.proofs.split.Kinds as split-kinds
+use Rattle.groups.proofs.split.Kinds as split_kinds
 use Rattle.groups.proofs.split.Reads as split
 
 -- an answer can be told from what it stands for
@@ -45,8 +45,8 @@ OneAnswer n ps k Post =
     (κs : Lfts n) (a : Dens κs ps) (r r' : (res_t k κs).Denot) (x x' : AtExit (ended_of n ps k) κs)
     → Post κs a r x → Post κs a r' x' → r ≡ r'
 
-pub read_number_one : OneAnswer 1 read-number-kinds.ps read-number-kinds.r read_number.Post
+pub read_number_one : OneAnswer 1 read_number_kinds.ps read_number_kinds.r read_number.Post
 read_number_one κs a r r' x x' p q = sym (number_back r) ∙ ap number_from (p ∙ sym q) ∙ number_back r'
 
-pub split_one : OneAnswer 0 split-kinds.ps split-kinds.r split.Post
+pub split_one : OneAnswer 0 split_kinds.ps split_kinds.r split.Post
 split_one κs a r r' x x' p q = sym (groups_back r) ∙ ap groups_of (p ∙ sym q) ∙ groups_back r'

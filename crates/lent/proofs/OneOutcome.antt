@@ -11,11 +11,11 @@ use Rattle.arrays.specs.declared.Tally.{Tally}
 use Rattle.departs.specs.declared.tally.Step.{Step}
 use Rattle.departs.specs.Steps.{outcome_of}
 use Rattle.lent.specs.Lent.{Arrays, shown, LentPost}
-use Rattle.lent.proofs.apply.Kinds as apply-kinds
+use Rattle.lent.proofs.apply.Kinds as apply_kinds
 use Rattle.lent.proofs.apply.Reads as apply
 
 -- what was lent, as it is left
-abbrev pub left : (κs : Lfts 10) → AtExit (ended_of 10 apply-kinds.ps apply-kinds.r) κs → Arrays
+abbrev pub left : (κs : Lfts 10) → AtExit (ended_of 10 apply_kinds.ps apply_kinds.r) κs → Arrays
 left κs x =
     let y = x.1 in
     record {
@@ -50,7 +50,7 @@ one node nodes destination links before t kind argument b b' r r' p q =
           ),
     )
 
-pub apply_one : (κs : Lfts 10) (a : Dens κs apply-kinds.ps) (r r' : Step) (x x' : AtExit (ended_of 10 apply-kinds.ps apply-kinds.r) κs)
+pub apply_one : (κs : Lfts 10) (a : Dens κs apply_kinds.ps) (r r' : Step) (x x' : AtExit (ended_of 10 apply_kinds.ps apply_kinds.r) κs)
     → apply.Post κs a r x → apply.Post κs a r' x'
     → let sizes = a.1.1.1.1.1.1.1.1.1.1 in Same a.0.now sizes.0 sizes.1.0 sizes.1.1.0 (left κs x) (left κs x') r r'
 apply_one κs a r r' x x' p q =

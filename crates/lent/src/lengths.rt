@@ -1,4 +1,4 @@
-// The lengths of arrays that are lent: a reference to an array does not tell its length by itself; lent as a slice it does.
+// The lengths of arrays that are lent, told to a proof by lending each as a slice.
 ghost use Rattle.std.specs.Prelude.{◌≡◌, length};
 ghost use Rattle.arrays.specs.Flight.{Slots};
 ghost use Rattle.departs.specs.Steps.{Whole};

@@ -9,7 +9,7 @@ use Rattle.model.specs.Text.{ascii, digits, line, spoilt_line, total_line, turns
 use Rattle.network.specs.declared.record.Network.{Network}
 use Rattle.arrays.specs.View.{packet_at}
 use Rattle.network.specs.View.{view}
-use Rattle.arrays.proofs.Below.{tab_same, length-tab, used-in}
+use Rattle.arrays.proofs.Below.{tab_same, length-tab, used_in}
 use Rattle.lines.specs.Lines.{row, ending_of}
 
 pub refused_row : (answer place : ℕ) → refused_line answer place ≡ row (ascii "refused") (answer ∷ place ∷ []) 2
@@ -31,7 +31,7 @@ module _ (n : Network) where
 
   turns_row : turns_line (view n) ≡ row (ascii "turns") n.turns n.nodes
   unfolding row
-  turns_row = ap (line (ascii "turns")) (tab_same _ _ n.nodes (λ v h. ap digits (used-in n.nodes 0 n.turns v h)))
+  turns_row = ap (line (ascii "turns")) (tab_same _ _ n.nodes (λ v h. ap digits (used_in n.nodes 0 n.turns v h)))
 
   pub ending_rows : {a b c d : ℕ} → a ≡ n.admitted → b ≡ n.delivered → c ≡ n.lost → d ≡ n.stranded
       → ending_of (view n) ≡ row (ascii "total") (a ∷ b ∷ c ∷ d ∷ n.flying ∷ []) 5 ++ row (ascii "turns") n.turns n.nodes

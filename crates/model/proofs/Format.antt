@@ -60,13 +60,13 @@ pub kind_made : (k : ℕ) (make : ℕ → Event) (a : ℕ) → of_kind k ≡ som
 unfolding of_kind
 kind_made k make a e = elim (look (eqb k 1)) [
   | inl one ↦ let f = rw one at e in let is : send ≡ make = cc in rw (← is) (sym (eqb-true k 1 one), refl)
-  | inr not-one ↦ elim (look (eqb k 2)) [
-    | inl two ↦ let f = rw (not-one, two) at e in let is : deliver ≡ make = cc in rw (← is) (sym (eqb-true k 2 two), refl)
-    | inr not-two ↦ elim (look (eqb k 3)) [
-      | inl three ↦ let f = rw (not-one, not-two, three) at e in let is : lose ≡ make = cc in rw (← is) (sym (eqb-true k 3 three), refl)
+  | inr not_one ↦ elim (look (eqb k 2)) [
+    | inl two ↦ let f = rw (not_one, two) at e in let is : deliver ≡ make = cc in rw (← is) (sym (eqb-true k 2 two), refl)
+    | inr not_two ↦ elim (look (eqb k 3)) [
+      | inl three ↦ let f = rw (not_one, not_two, three) at e in let is : lose ≡ make = cc in rw (← is) (sym (eqb-true k 3 three), refl)
       | inr not_three ↦ elim (look (eqb k 4)) [
-        | inl four ↦ let f = rw (not-one, not-two, not_three, four) at e in let is : fail ≡ make = cc in rw (← is) (sym (eqb-true k 4 four), refl)
-        | inr not-four ↦ never (let f = rw (not-one, not-two, not_three, not-four) at e in cc)
+        | inl four ↦ let f = rw (not_one, not_two, not_three, four) at e in let is : fail ≡ make = cc in rw (← is) (sym (eqb-true k 4 four), refl)
+        | inr not_four ↦ never (let f = rw (not_one, not_two, not_three, not_four) at e in cc)
       ]
     ]
   ]

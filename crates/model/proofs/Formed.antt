@@ -98,8 +98,8 @@ module _ (s : State) where
       let d = three (limits_hold s) links_ok ends_ok c.0 in
       let sizes = sized s.net.nodes s.net.destination s.net.links in
       let l = three sizes (leb (length s.flight) flight_most) (leb s.counts.events events_most) d.0 in
-      let all-places = length s.flight + s.counts.delivered + s.counts.lost + s.counts.stranded in
-      let m = and_both (leb s.counts.admitted s.counts.events) (eqb s.counts.admitted all-places) a.1 in
+      let all_places = length s.flight + s.counts.delivered + s.counts.lost + s.counts.stranded in
+      let m = and_both (leb s.counts.admitted s.counts.events) (eqb s.counts.admitted all_places) a.1 in
       record {
         net = record { sizes = l.0; links = λ k h. all_at (link_formed s) s.net.links k d.1 h };
         within = leb-true s.counts.events events_most l.2;
@@ -108,13 +108,13 @@ module _ (s : State) where
         flies = packets_fly s.flight c.1;
         turned = λ v h. omega (arith, leb-true (s.turns v) s.counts.events (all_at (turns_formed s) s.net.nodes v b.1 h));
         fewer = leb-true s.counts.admitted s.counts.events m.0;
-        sum = omega (arith, eqb-true s.counts.admitted all-places m.1);
+        sum = omega (arith, eqb-true s.counts.admitted all_places m.1);
       }
 
   pub if_formed : {k : ℕ} → Formed 0 k s → well_formed s ≡ true
   unfolding well_formed limits_hold link_formed end_formed turns_formed summed
   if_formed f =
-      let all-places = length s.flight + s.counts.delivered + s.counts.lost + s.counts.stranded in
+      let all_places = length s.flight + s.counts.delivered + s.counts.lost + s.counts.stranded in
       rw (
         f.net.sizes,
         le-leb (length s.flight) flight_most (omega (arith, f.room)),
@@ -125,7 +125,7 @@ module _ (s : State) where
         all_here (turns_formed s) s.net.nodes (λ v h. le-leb (s.turns v) s.counts.events (omega (arith, f.turned v h))),
         le-leb s.counts.admitted s.counts.events f.fewer,
       )
-      (eq-eqb s.counts.admitted all-places (omega (arith, f.sum)))
+      (eq-eqb s.counts.admitted all_places (omega (arith, f.sum)))
 
 -- marks after a turn
 turn_mark : (at l r o m : Bool) → (at ≡ false → r ≡ false) → (m ≡ true → (o ≡ false) × (l ≡ true))

@@ -121,7 +121,7 @@ join_starts k b t v none l h ih e = never cc
 join_starts k b t v (some high) l h ih e = elim (look (eqb high.value 0)) [
   | inl z ↦ never (let f = rw z at e in cc)
   | inr z ↦
-      let not-zero = eqb-false high.value 0 z in
+      let not_zero = eqb-false high.value 0 z in
       more_starts k b t v high l h (omega arith) (ih high refl) (rw z at e)
 ]
 

@@ -3,15 +3,15 @@ use Rattle.model.specs.Promises.{CasesHold, OthersHold, FourExactly, FormedKept,
 use Rattle.model.proofs.Cases as cases
 use Rattle.model.proofs.Opening as opening
 use Rattle.model.proofs.Single as single
-use Rattle.model.proofs.Named as named-of
+use Rattle.model.proofs.Named as named_of
 use Rattle.model.proofs.Bound as bound
 use Rattle.model.proofs.Agreement as agreement
 use Rattle.model.proofs.Turns as turns
 use Rattle.model.proofs.Places as places
 use Rattle.model.proofs.Shown as shown
-use Rattle.model.proofs.ReadBack as read-back-of
+use Rattle.model.proofs.ReadBack as read_back_of
 use Rattle.model.proofs.Had as had
-use Rattle.model.proofs.OneWriting as one-writing-of
+use Rattle.model.proofs.OneWriting as one_writing_of
 use Rattle.model.proofs.Pieces as pieces
 use Rattle.model.proofs.TextFits as text
 
@@ -40,7 +40,7 @@ pub fail_keeps : FailKeeps
 fail_keeps = single.fail_keeps
 
 pub named : Named
-named = named-of.named
+named = named_of.named
 
 pub turns_bounded : TurnsBounded
 turns_bounded = bound.bound
@@ -76,10 +76,10 @@ pub writable_tells : WritableTells
 writable_tells = shown.writable_tells
 
 pub read_back : ReadBack
-read_back = read-back-of.read_back
+read_back = read_back_of.read_back
 
 pub one_writing : OneWritingEach
-one_writing = one-writing-of.one_writing
+one_writing = one_writing_of.one_writing
 
 pub reading_ends : ReadingEnds
 reading_ends = had.reading_ends

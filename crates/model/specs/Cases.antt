@@ -10,7 +10,7 @@ use Rattle.model.specs.Events.{send, deliver, lose, fail}
 use Rattle.model.specs.Number.{had, refused}
 use Rattle.model.specs.File.{Header, Drill}
 use Rattle.model.specs.Text.{ascii}
-use Rattle.model.specs.Rows.{nodes-are, destination-is, links_are, node_is, turns_are, up_is, out_is, mark_is, flight_is, counts_are, unchanged, unreversed, gone, turned, opens, last, all_of, on_made, formed, judges, writes, reads, reads_at, reads_event_at, puts_event, puts_header, writes_drill, pieces, file, runs, prints, limit, answers, gave, leaves, bytes, number, got, told, wrote, is, Case, row}
+use Rattle.model.specs.Rows.{nodes_are, destination_is, links_are, node_is, turns_are, up_is, out_is, mark_is, flight_is, counts_are, unchanged, unreversed, gone, turned, opens, last, all_of, on_made, formed, judges, writes, reads, reads_at, reads_event_at, puts_event, puts_header, writes_drill, pieces, file, runs, prints, limit, answers, gave, leaves, bytes, number, got, told, wrote, is, Case, row}
 
 abbrev pub net : ℕ → ℕ → List ℕ → Header
 net nodes destination list = record { nodes = nodes; destination = destination; list = list }
@@ -250,17 +250,17 @@ others =
     ∷ row (last one_link (fail 0 ∷ []) (fail 0)) (gave 7 Nothing Nowhere (0 ∷ 0 ∷ []) (count 1 0 0 0 0))
     -- well formed, by a packet sent on one link and one thing changed: the limits, on both sides
     ∷ row (formed one_link (send 1 ∷ []) []) (told true)
-    ∷ row (formed one_link (send 1 ∷ []) (nodes-are 64 ∷ [])) (told true)
-    ∷ row (formed one_link (send 1 ∷ []) (nodes-are 65 ∷ [])) (told false)
-    ∷ row (formed one_link (send 1 ∷ []) (destination-is 1 ∷ [])) (told true)
-    ∷ row (formed one_link (send 1 ∷ []) (destination-is 2 ∷ [])) (told false)
-    ∷ row (formed (net 1 0 []) [] (nodes-are 0 ∷ [])) (told false)
+    ∷ row (formed one_link (send 1 ∷ []) (nodes_are 64 ∷ [])) (told true)
+    ∷ row (formed one_link (send 1 ∷ []) (nodes_are 65 ∷ [])) (told false)
+    ∷ row (formed one_link (send 1 ∷ []) (destination_is 1 ∷ [])) (told true)
+    ∷ row (formed one_link (send 1 ∷ []) (destination_is 2 ∷ [])) (told false)
+    ∷ row (formed (net 1 0 []) [] (nodes_are 0 ∷ [])) (told false)
     ∷ row (formed one_link [] (flight_is (replicate 256 (packet 0 0 false)) ∷ counts_are (count 256 256 0 0 0) ∷ [])) (told true)
     ∷ row (formed one_link [] (flight_is (replicate 257 (packet 0 0 false)) ∷ counts_are (count 257 257 0 0 0) ∷ [])) (told false)
     ∷ row (formed one_link (send 1 ∷ []) (counts_are (count 1_000_000 1 0 0 0) ∷ [])) (told true)
     ∷ row (formed one_link (send 1 ∷ []) (counts_are (count 1_000_001 1 0 0 0) ∷ [])) (told false)
     -- every number in its range: a link names two nodes; only entries in use count
-    ∷ row (formed one_link [] (nodes-are 1 ∷ [])) (told false)
+    ∷ row (formed one_link [] (nodes_are 1 ∷ [])) (told false)
     ∷ row (formed one_link [] (node_is 1 2 ∷ [])) (told false)
     ∷ row (formed one_link [] (node_is 1 1 ∷ [])) (told false)
     ∷ row (formed one_link [] (links_are 2 ∷ [])) (told false)

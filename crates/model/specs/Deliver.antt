@@ -26,14 +26,14 @@ news s y =
 
 -- at end y, which was Out on arrival, or not; the bit was new to it, or not; s is without the packet n
 unfoldable pub arrives : State → ℕ → ℕ → Bool → Bool → Outcome
-arrives s y n wasOut is_new =
+arrives s y n was_out is_new =
     -- 2. "End is Out and p differs from remote": news
-    let t = cond (wasOut && is_new) (news s y) s in
+    let t = cond (was_out && is_new) (news s y) s in
     let v = s.net.node y in
     -- 3. "At the destination: delivered, nothing more."
     cond (eqb v s.net.destination) (gives (counted t 0 1 0 0) n went.Delivered)
     -- 4. "If the end was Out on arrival and p equals remote: the packet goes back on L, and nowhere else."
-    (cond (wasOut && not is_new) (leaves (counted t 0 0 0 0) y n)
+    (cond (was_out && not is_new) (leaves (counted t 0 0 0 0) y n)
     -- 5. "Otherwise: departure update, then the lowest-numbered live Out link."
     (onward (counted t 0 0 0 0) v n))
 

@@ -24,7 +24,7 @@ use Rattle.model.specs.File.{Header, opening, read_header, argument, read_event,
 use Rattle.model.specs.Writing.{header_bytes, event_bytes, write}
 use Rattle.model.specs.Writable.{Bytes, Writable, write_pieces}
 use Rattle.model.specs.Text.{drill_output}
-use Rattle.model.specs.Rows.{local-is, flight_is, Hold}
+use Rattle.model.specs.Rows.{local_is, flight_is, Hold}
 use Rattle.model.specs.Cases.{net, packet, one_link, away_from, cases, others}
 use Rattle.model.specs.Shown.{ran, Met, zigzag, two_turns, longer_zigzag, three_turns, circle, circle_turns, shortcut, crowd, crowd_events, heard, unheard}
 
@@ -178,13 +178,13 @@ pub record PlacesShown : Type 0 where
 -- Ends that agree, an end that has yet to hear, and what is neither: a local bit, or a packet's bit, that is another.
 pub record AgreementTells : Type 0 where
   pub agree : Agree (heard []) 0 1
-  pub other_mine : Agree (heard (local-is 0 false ∷ [])) 0 1 → ⊥
-  pub other_yours : Agree (heard (local-is 1 true ∷ [])) 0 1 → ⊥
+  pub other_mine : Agree (heard (local_is 0 false ∷ [])) 0 1 → ⊥
+  pub other_yours : Agree (heard (local_is 1 true ∷ [])) 0 1 → ⊥
   pub other_from_me : Agree (heard (flight_is (packet 0 0 true ∷ packet 1 0 false ∷ []) ∷ [])) 0 1 → ⊥
   pub other_from_you : Agree (heard (flight_is (packet 0 1 false ∷ packet 1 1 true ∷ []) ∷ [])) 0 1 → ⊥
   pub untold : Untold (unheard []) 0 1
-  pub told_mine : Untold (unheard (local-is 0 true ∷ [])) 0 1 → ⊥
-  pub told_yours : Untold (unheard (local-is 1 true ∷ [])) 0 1 → ⊥
+  pub told_mine : Untold (unheard (local_is 0 true ∷ [])) 0 1 → ⊥
+  pub told_yours : Untold (unheard (local_is 1 true ∷ [])) 0 1 → ⊥
   pub new_then_old : Untold (unheard (flight_is (packet 0 0 false ∷ packet 1 0 true ∷ []) ∷ [])) 0 1 → ⊥
   pub told_from_you : Untold (unheard (flight_is (packet 0 1 false ∷ packet 1 1 true ∷ []) ∷ [])) 0 1 → ⊥
 

@@ -52,9 +52,9 @@ listed s =
 
 -- ---- a record made by hand: one after some events, some of its fields changed
 pub data Change : Type 0 where
-  nodes-are destination-is links_are : ℕ → Change
+  nodes_are destination_is links_are : ℕ → Change
   node_is turns_are : ℕ → ℕ → Change
-  up_is out_is local-is remote-is mark_is : ℕ → Bool → Change
+  up_is out_is local_is remote_is mark_is : ℕ → Bool → Change
   flight_is : List Packet → Change
   counts_are : Counts → Change
 
@@ -81,17 +81,17 @@ with_rest s up turns flight counts =
     record { net = s.net; up = up; ends = s.ends; turns = turns; flight = flight; counts = counts }
 
 unfoldable pub changed : State → Change → State
-changed s (nodes-are n) =
+changed s (nodes_are n) =
     with_net s (record { nodes = n; destination = s.net.destination; links = s.net.links; node = s.net.node })
-changed s (destination-is d) =
+changed s (destination_is d) =
     with_net s (record { nodes = s.net.nodes; destination = d; links = s.net.links; node = s.net.node })
 changed s (links_are n) =
     with_net s (record { nodes = s.net.nodes; destination = s.net.destination; links = n; node = s.net.node })
 changed s (node_is x v) =
     with_net s (record { nodes = s.net.nodes; destination = s.net.destination; links = s.net.links; node = at x v s.net.node })
 changed s (out_is x b) = with_ends s (at x b s.ends.out) s.ends.local s.ends.remote s.ends.mark
-changed s (local-is x b) = with_ends s s.ends.out (at x b s.ends.local) s.ends.remote s.ends.mark
-changed s (remote-is x b) = with_ends s s.ends.out s.ends.local (at x b s.ends.remote) s.ends.mark
+changed s (local_is x b) = with_ends s s.ends.out (at x b s.ends.local) s.ends.remote s.ends.mark
+changed s (remote_is x b) = with_ends s s.ends.out s.ends.local (at x b s.ends.remote) s.ends.mark
 changed s (mark_is x b) = with_ends s s.ends.out s.ends.local s.ends.remote (at x b s.ends.mark)
 changed s (up_is l b) = with_rest s (at l b s.up) s.turns s.flight s.counts
 changed s (turns_are v n) = with_rest s s.up (at v n s.turns) s.flight s.counts

@@ -6,7 +6,7 @@ use Rattle.model.specs.Events.{Event, send, deliver, lose, fail}
 use Rattle.model.specs.History.{after}
 use Rattle.model.specs.Paths.{Joined}
 use Rattle.model.specs.File.{Header, opening}
-use Rattle.model.specs.Rows.{Change, local-is, remote-is, flight_is, made}
+use Rattle.model.specs.Rows.{Change, local_is, remote_is, flight_is, made}
 use Rattle.model.specs.Cases.{net, packet, one_link}
 
 abbrev pub ran : Header → List Event → State
@@ -89,10 +89,10 @@ crowd_events =
 abbrev pub heard : List Change → State
 heard cs =
     made (opening one_link).state
-    (local-is 0 true ∷ remote-is 1 true ∷ flight_is (packet 0 0 true ∷ packet 1 1 false ∷ []) ∷ cs)
+    (local_is 0 true ∷ remote_is 1 true ∷ flight_is (packet 0 0 true ∷ packet 1 1 false ∷ []) ∷ cs)
 
 -- and one in which it has turned again, and end 1 has yet to hear of it: its lane holds an old bit and then a new one
 abbrev pub unheard : List Change → State
 unheard cs =
     made (opening one_link).state
-    (remote-is 1 true ∷ flight_is (packet 0 0 true ∷ packet 2 0 false ∷ packet 1 1 false ∷ []) ∷ cs)
+    (remote_is 1 true ∷ flight_is (packet 0 0 true ∷ packet 2 0 false ∷ packet 1 1 false ∷ []) ∷ cs)

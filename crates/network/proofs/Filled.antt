@@ -17,7 +17,7 @@ use Rattle.arrays.specs.View.{used, net_of, ends_of, packet_at, state_of}
 use Rattle.network.specs.View.{view}
 use Rattle.arrays.specs.Flight.{slots}
 use Rattle.network.specs.Opening.{lone_network}
-use Rattle.arrays.proofs.Below.{used-is}
+use Rattle.arrays.proofs.Below.{used_is}
 
 abbrev none : Counts
 none = record { events = 0; admitted = 0; delivered = 0; lost = 0; stranded = 0 }
@@ -40,37 +40,37 @@ module _ (nodes destination : ℕ) (list : List ℕ) (even : length list ≡ 2 *
         up = live_is i;
         ends = record {
           out = side_is 0 out o i;
-          local = used-is (2 * links_in list) false local (λ x. false) a (λ x h. refl) i;
-          remote = used-is (2 * links_in list) false remote (λ x. false) r (λ x h. refl) i;
+          local = used_is (2 * links_in list) false local (λ x. false) a (λ x h. refl) i;
+          remote = used_is (2 * links_in list) false remote (λ x. false) r (λ x h. refl) i;
           mark = side_is 1 mark m i;
         };
-        turns = used-is nodes 0 turns (λ v. 0) t (λ v h. refl) i;
+        turns = used_is nodes 0 turns (λ v. 0) t (λ v h. refl) i;
         flight = [];
         counts = none;
       }
     where
       node_is : used (2 * links_in list) 0 node ≡ node_in list
-      node_is = used-is (2 * links_in list) 0 node (node_in list) n (λ x h. sym (get_or-eq_default list 0 (omega arith)))
+      node_is = used_is (2 * links_in list) 0 node (node_in list) n (λ x h. sym (get_or-eq_default list 0 (omega arith)))
 
       live_is : used (links_in list) false live ≡ (λ k. ltb k (links_in list))
       live_is =
-          used-is (links_in list) false live (λ k. ltb k (links_in list)) (λ k h. l k h ∙ sym (lt-ltb k (links_in list) h))
+          used_is (links_in list) false live (λ k. ltb k (links_in list)) (λ k h. l k h ∙ sym (lt-ltb k (links_in list) h))
           (λ k h. sym (le-ltb k (links_in list) h))
 
       side_is : (s : ℕ) (xs : List Bool) → ((x : ℕ) → x < 2 * links_in list → get_or xs x false ≡ eqb (x % 2) s)
           → used (2 * links_in list) false xs ≡ (λ x. ltb x (2 * links_in list) && eqb (x % 2) s)
       side_is s xs e =
-          used-is (2 * links_in list) false xs (λ x. ltb x (2 * links_in list) && eqb (x % 2) s)
+          used_is (2 * links_in list) false xs (λ x. ltb x (2 * links_in list) && eqb (x % 2) s)
           (λ x h. rw (lt-ltb x (2 * links_in list) h) (e x h)) (λ x h. rw (le-ltb x (2 * links_in list) h))
 
 no_packets : {A : Type 0} (f : ℕ → A) → tab f 0 ≡ []
 unfolding tab
 no_packets f = refl
 
-default-all {ℓ} : {A : Type ℓ} (n i : ℕ) (d : A) → get_or (replicate n d) i d ≡ d
-default-all zero i d = refl
-default-all (suc n) zero d = refl
-default-all (suc n) (suc i) d = default-all n i d
+default_all {ℓ} : {A : Type ℓ} (n i : ℕ) (d : A) → get_or (replicate n d) i d ≡ d
+default_all zero i d = refl
+default_all (suc n) zero d = refl
+default_all (suc n) (suc i) d = default_all n i d
 
 -- ---- the record of one node
 pub lone_view : view lone_network ≡ opened 1 0 []
@@ -81,7 +81,7 @@ lone_view =
     ∙ opened_by 1 0 [] refl (replicate ends_most 0) (replicate links_most false) (replicate ends_most false) (replicate ends_most false)
     (replicate ends_most false) (replicate ends_most false) (replicate nodes_most 0) (λ x h. absurd (omega arith)) (λ l h. absurd (omega arith))
     (λ x h. absurd (omega arith)) (λ x h. absurd (omega arith)) (λ x h. absurd (omega arith)) (λ x h. absurd (omega arith))
-    (λ v h. default-all nodes_most v 0)
+    (λ v h. default_all nodes_most v 0)
   where
     clear : Ends
     clear = ends_of 0 (replicate ends_most false) (replicate ends_most false) (replicate ends_most false) (replicate ends_most false)
@@ -130,8 +130,8 @@ module _ (nodes destination : ℕ) (list : List ℕ) (even : length list ≡ 2 *
       ∙ opened_by nodes destination list even node live out clear clear mark (replicate nodes_most 0)
       (λ x h. rw (n, tab_at 0 (node_in list) ends_most x (omega arith)))
       (λ k h. rw (l, tab_at false (λ j. ltb j (links_in list)) links_most k (omega arith)) (lt-ltb k (links_in list) h))
-      (side_at 0 out o) (λ x h. default-all ends_most x false) (λ x h. default-all ends_most x false) (side_at 1 mark m)
-      (λ v h. default-all nodes_most v 0)
+      (side_at 0 out o) (λ x h. default_all ends_most x false) (λ x h. default_all ends_most x false) (side_at 1 mark m)
+      (λ v h. default_all nodes_most v 0)
     where
       clear : List Bool
       clear = replicate ends_most false

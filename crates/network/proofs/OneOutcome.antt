@@ -12,33 +12,33 @@ use Rattle.network.specs.declared.record.Network.{Network}
 use Rattle.network.specs.declared.record.Moved.{Moved}
 use Rattle.network.specs.Opening.{seen_opened}
 use Rattle.network.specs.Calls.{seen, CallPost}
-use Rattle.network.proofs.record.Network.well_formed.Kinds as well-formed-kinds
-use Rattle.network.proofs.record.Network.well_formed.Reads as well-formed
-use Rattle.network.proofs.record.Network.apply.Kinds as apply-kinds
+use Rattle.network.proofs.record.Network.well_formed.Kinds as well_formed_kinds
+use Rattle.network.proofs.record.Network.well_formed.Reads as well_formed_reads
+use Rattle.network.proofs.record.Network.apply.Kinds as apply_kinds
 use Rattle.network.proofs.record.Network.apply.Reads as apply
-use Rattle.network.proofs.record.Network.send.Kinds as send-kinds
+use Rattle.network.proofs.record.Network.send.Kinds as send_kinds
 use Rattle.network.proofs.record.Network.send.Reads as send
-use Rattle.network.proofs.record.Network.deliver.Kinds as deliver-kinds
+use Rattle.network.proofs.record.Network.deliver.Kinds as deliver_kinds
 use Rattle.network.proofs.record.Network.deliver.Reads as deliver
-use Rattle.network.proofs.record.Network.lose.Kinds as lose-kinds
+use Rattle.network.proofs.record.Network.lose.Kinds as lose_kinds
 use Rattle.network.proofs.record.Network.lose.Reads as lose
-use Rattle.network.proofs.record.Network.fail.Kinds as fail-kinds
+use Rattle.network.proofs.record.Network.fail.Kinds as fail_kinds
 use Rattle.network.proofs.record.Network.fail.Reads as fail
-use Rattle.network.proofs.open.Kinds as opening-kinds
+use Rattle.network.proofs.open.Kinds as opening_kinds
 use Rattle.network.proofs.open.Reads as opening
 
 abbrev pub OneAnswer : (n : ℕ) (ps : List (ParamKind n)) (k : ResultKind n) → Out n ps k → Type 0
 OneAnswer n ps k Post =
     (κs : Lfts n) (a : Dens κs ps) (r r' : (res_t k κs).Denot) (x x' : AtExit (ended_of n ps k) κs) → Post κs a r x → Post κs a r' x' → r ≡ r'
 
-pub well_formed_one : OneAnswer 0 well-formed-kinds.ps well-formed-kinds.r well-formed.Post
+pub well_formed_one : OneAnswer 0 well_formed_kinds.ps well_formed_kinds.r well_formed_reads.Post
 well_formed_one κs a r r' x x' p q = p ∙ sym q
 
 -- What a reader sees is the same; and a refusal, to its last entry.
 abbrev pub Same : Opened → Opened → Type 0
 Same r r' = (seen_opened r ≡ seen_opened r') × ((r.answer ≡ 0 → ⊥) → r ≡ r')
 
-pub open_one : (κs : Lfts 1) (a : Dens κs opening-kinds.ps) (r r' : Opened) (x x' : AtExit (ended_of 1 opening-kinds.ps opening-kinds.r) κs)
+pub open_one : (κs : Lfts 1) (a : Dens κs opening_kinds.ps) (r r' : Opened) (x x' : AtExit (ended_of 1 opening_kinds.ps opening_kinds.r) κs)
     → opening.Post κs a r x → opening.Post κs a r' x' → Same r r'
 open_one κs a r r' x x' p q =
     let seen = p.outcome ∙ sym q.outcome in
@@ -69,17 +69,17 @@ one_moved n o r r' p q =
       },
     )
 
-pub apply_one : OneMoved apply-kinds.ps apply-kinds.r (λ κs r. r) apply.Post
+pub apply_one : OneMoved apply_kinds.ps apply_kinds.r (λ κs r. r) apply.Post
 apply_one κs a r r' x x' p q = one_moved _ _ r r' p q
 
-pub send_one : OneMoved send-kinds.ps send-kinds.r (λ κs r. r) send.Post
+pub send_one : OneMoved send_kinds.ps send_kinds.r (λ κs r. r) send.Post
 send_one κs a r r' x x' p q = one_moved _ _ r r' p q
 
-pub deliver_one : OneMoved deliver-kinds.ps deliver-kinds.r (λ κs r. r) deliver.Post
+pub deliver_one : OneMoved deliver_kinds.ps deliver_kinds.r (λ κs r. r) deliver.Post
 deliver_one κs a r r' x x' p q = one_moved _ _ r r' p q
 
-pub lose_one : OneMoved lose-kinds.ps lose-kinds.r (λ κs r. r) lose.Post
+pub lose_one : OneMoved lose_kinds.ps lose_kinds.r (λ κs r. r) lose.Post
 lose_one κs a r r' x x' p q = one_moved _ _ r r' p q
 
-pub fail_one : OneMoved fail-kinds.ps fail-kinds.r (λ κs r. r) fail.Post
+pub fail_one : OneMoved fail_kinds.ps fail_kinds.r (λ κs r. r) fail.Post
 fail_one κs a r r' x x' p q = one_moved _ _ r r' p q

@@ -9,7 +9,7 @@ use Rattle.model.specs.Events.{Event}
 use Rattle.model.specs.Events as events
 use Rattle.model.specs.File.{of_kind}
 use Rattle.departs.specs.declared.tally.Step.{Step}
-use Rattle.lent.proofs.apply.Kinds as lent-kinds
+use Rattle.lent.proofs.apply.Kinds as lent_kinds
 use Rattle.lent.proofs.apply.Reads as lent
 use Rattle.lent.proofs.OneOutcome.{left}
 use Rattle.network.specs.declared.opening.Opened.{Opened}
@@ -17,45 +17,45 @@ use Rattle.network.specs.declared.record.Network.{Network}
 use Rattle.network.specs.declared.record.Moved.{Moved}
 use Rattle.network.specs.Runs.{event_if, Run, opened, sent, delivered, lost, failed, applied}
 use Rattle.network.proofs.Remade.{remade, moved, called}
-use Rattle.network.proofs.record.Network.apply.Kinds as apply-kinds
+use Rattle.network.proofs.record.Network.apply.Kinds as apply_kinds
 use Rattle.network.proofs.record.Network.apply.Reads as apply
-use Rattle.network.proofs.record.Network.send.Kinds as send-kinds
+use Rattle.network.proofs.record.Network.send.Kinds as send_kinds
 use Rattle.network.proofs.record.Network.send.Reads as send
-use Rattle.network.proofs.record.Network.deliver.Kinds as deliver-kinds
+use Rattle.network.proofs.record.Network.deliver.Kinds as deliver_kinds
 use Rattle.network.proofs.record.Network.deliver.Reads as deliver
-use Rattle.network.proofs.record.Network.lose.Kinds as lose-kinds
+use Rattle.network.proofs.record.Network.lose.Kinds as lose_kinds
 use Rattle.network.proofs.record.Network.lose.Reads as lose
-use Rattle.network.proofs.record.Network.fail.Kinds as fail-kinds
+use Rattle.network.proofs.record.Network.fail.Kinds as fail_kinds
 use Rattle.network.proofs.record.Network.fail.Reads as fail
-use Rattle.network.proofs.open.Kinds as opening-kinds
+use Rattle.network.proofs.open.Kinds as opening_kinds
 use Rattle.network.proofs.open.Reads as opening
 
-pub open_runs : (κs : Lfts 1) (a : Dens κs opening-kinds.ps) (r : Opened) (x : AtExit (ended_of 1 opening-kinds.ps opening-kinds.r) κs)
+pub open_runs : (κs : Lfts 1) (a : Dens κs opening_kinds.ps) (r : Opened) (x : AtExit (ended_of 1 opening_kinds.ps opening_kinds.r) κs)
     → opening.Post κs a r x → r.answer ≡ answers.done → Run r.network []
 open_runs κs a r x p done = opened a.0 a.1.0 a.1.1.0.now r p done
 
-pub send_runs : (κs : Lfts 0) (a : Dens κs send-kinds.ps) (r : Moved) (x : AtExit (ended_of 0 send-kinds.ps send-kinds.r) κs)
+pub send_runs : (κs : Lfts 0) (a : Dens κs send_kinds.ps) (r : Moved) (x : AtExit (ended_of 0 send_kinds.ps send_kinds.r) κs)
     → send.Post κs a r x → (es : List Event) → Run a.0 es → Run r.network (es ++ (events.send a.1.0 ∷ []))
 send_runs κs a r x p es h = sent a.0 es h a.1.0 r p
 
-pub deliver_runs : (κs : Lfts 0) (a : Dens κs deliver-kinds.ps) (r : Moved) (x : AtExit (ended_of 0 deliver-kinds.ps deliver-kinds.r) κs)
+pub deliver_runs : (κs : Lfts 0) (a : Dens κs deliver_kinds.ps) (r : Moved) (x : AtExit (ended_of 0 deliver_kinds.ps deliver_kinds.r) κs)
     → deliver.Post κs a r x → (es : List Event) → Run a.0 es → Run r.network (es ++ (events.deliver a.1.0 ∷ []))
 deliver_runs κs a r x p es h = delivered a.0 es h a.1.0 r p
 
-pub lose_runs : (κs : Lfts 0) (a : Dens κs lose-kinds.ps) (r : Moved) (x : AtExit (ended_of 0 lose-kinds.ps lose-kinds.r) κs)
+pub lose_runs : (κs : Lfts 0) (a : Dens κs lose_kinds.ps) (r : Moved) (x : AtExit (ended_of 0 lose_kinds.ps lose_kinds.r) κs)
     → lose.Post κs a r x → (es : List Event) → Run a.0 es → Run r.network (es ++ (events.lose a.1.0 ∷ []))
 lose_runs κs a r x p es h = lost a.0 es h a.1.0 r p
 
-pub fail_runs : (κs : Lfts 0) (a : Dens κs fail-kinds.ps) (r : Moved) (x : AtExit (ended_of 0 fail-kinds.ps fail-kinds.r) κs)
+pub fail_runs : (κs : Lfts 0) (a : Dens κs fail_kinds.ps) (r : Moved) (x : AtExit (ended_of 0 fail_kinds.ps fail_kinds.r) κs)
     → fail.Post κs a r x → (es : List Event) → Run a.0 es → Run r.network (es ++ (events.fail a.1.0 ∷ []))
 fail_runs κs a r x p es h = failed a.0 es h a.1.0 r p
 
-pub apply_runs : (κs : Lfts 0) (a : Dens κs apply-kinds.ps) (r : Moved) (x : AtExit (ended_of 0 apply-kinds.ps apply-kinds.r) κs)
+pub apply_runs : (κs : Lfts 0) (a : Dens κs apply_kinds.ps) (r : Moved) (x : AtExit (ended_of 0 apply_kinds.ps apply_kinds.r) κs)
     → apply.Post κs a r x → (es : List Event) → Run a.0 es → Run r.network (es ++ event_if (of_kind a.1.0) a.1.1.0)
 apply_runs κs a r x p es h = applied a.0 es h a.1.0 a.1.1.0 r p
 
 -- and so does a call in place, on the record that the lent arrays make
-abbrev pub lent_as : (κs : Lfts 10) → Dens κs lent-kinds.ps → Network
+abbrev pub lent_as : (κs : Lfts 10) → Dens κs lent_kinds.ps → Network
 lent_as κs a =
     let b = a.1 in
     let sizes = b.1.1.1.1.1.1.1.1.1 in
@@ -82,7 +82,7 @@ lent_as κs a =
       stranded = t.stranded;
     }
 
-pub lent_runs : (κs : Lfts 10) (a : Dens κs lent-kinds.ps) (r : Step) (x : AtExit (ended_of 10 lent-kinds.ps lent-kinds.r) κs)
+pub lent_runs : (κs : Lfts 10) (a : Dens κs lent_kinds.ps) (r : Step) (x : AtExit (ended_of 10 lent_kinds.ps lent_kinds.r) κs)
     → lent.Post κs a r x → (es : List Event) → Run (lent_as κs a) es
     → let call = a.1.1.1.1.1.1.1.1.1.1.1.1.1.1 in
     Run (remade (lent_as κs a) (left κs x) r.tally) (es ++ event_if (of_kind call.0) call.1.0)

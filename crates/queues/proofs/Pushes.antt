@@ -119,8 +119,8 @@ module _ (lane first last after : List ℕ) (k : ℕ) (q : Queued lane first las
 
     -- the lane was empty: the slot is its first and its last
     pub queued_first : (f a : List ℕ) → f ≡ firsts → a ≡ afters → Queued lanes f lasts a (k + 1)
-    queued_first f a f-is a-is =
-        rw (f-is, a-is) (record {
+    queued_first f a f_is a_is =
+        rw (f_is, a_is) (record {
           within = omega arith;
           named = λ j u. named_more j u (same j k);
           begins = λ y m. begins_first y m (same y x);
@@ -186,8 +186,8 @@ module _ (lane first last after : List ℕ) (k : ℕ) (q : Queued lane first las
 
     -- it was not: the slot comes after its last
     pub queued_last : (s : ℕ) (f a : List ℕ) → s ≡ t → f ≡ first → a ≡ set (set after k room) s k → Queued lanes f lasts a (k + 1)
-    queued_last s f a s-is f-is a-is =
-        rw (f-is, a-is, s-is) (record {
+    queued_last s f a s_is f_is a_is =
+        rw (f_is, a_is, s_is) (record {
           within = omega arith;
           named = λ j u. named_more j u (same j k);
           begins = λ y m. begins_last y m (same y x);

@@ -17,17 +17,17 @@ use Rattle.reader.specs.contracts.new as new
 use Rattle.reader.specs.contracts.moved as moved
 use Rattle.reader.specs.contracts.header as header
 use Rattle.reader.specs.contracts.next as next
-use Rattle.reader.proofs.header_of.Kinds as header-of-kinds
+use Rattle.reader.proofs.header_of.Kinds as header_of_kinds
 use Rattle.reader.proofs.header_of.Reads as header_of
-use Rattle.reader.proofs.next_at.Kinds as next-at-kinds
-use Rattle.reader.proofs.next_at.Reads as next-at
+use Rattle.reader.proofs.next_at.Kinds as next_at_kinds
+use Rattle.reader.proofs.next_at.Reads as next_at_reads
 
-pub header_of_one : (κs : Lfts 1) (a : Dens κs header-of-kinds.ps) (r r' : Headed)
-    (x x' : AtExit (ended_of 1 header-of-kinds.ps header-of-kinds.r) κs)
+pub header_of_one : (κs : Lfts 1) (a : Dens κs header_of_kinds.ps) (r r' : Headed)
+    (x x' : AtExit (ended_of 1 header_of_kinds.ps header_of_kinds.r) κs)
     → header_of.Post κs a r x → header_of.Post κs a r' x' → Same r r'
 header_of_one κs a r r' x x' = header_same r r'
 
-pub next_at_one : OneAnswer 1 next-at-kinds.ps next-at-kinds.r next-at.Post
+pub next_at_one : OneAnswer 1 next_at_kinds.ps next_at_kinds.r next_at_reads.Post
 next_at_one κs a r r' x x' = got_same r r'
 
 -- of two outcomes of one call, each with what the clause says of it

@@ -19,7 +19,7 @@ use Rattle.model.specs.Outcome.{Outcome, refuse, accepting, counted}
 use Rattle.model.specs.Fail.{off, cut, fail_of}
 use Rattle.model.proofs.Below.{look}
 use Rattle.arrays.specs.View.{used, ends_of, state_of}
-use Rattle.arrays.proofs.Below.{used-in, used-is, used-out}
+use Rattle.arrays.proofs.Below.{used_in, used_is, used_out}
 
 module _ (s : State) (l : ℕ) (formed : well_formed s ≡ true) (room : s.counts.events < events_most) where
   pub fail_no_such : s.net.links ≤ l → refuse s answers.no_such ≡ fail_of s l
@@ -48,8 +48,8 @@ module _ (net : Net) (live out local remote mark : List Bool) (turns : List ℕ)
 
   up_is : used net.links false (set live l false) ≡ (λ k. cond (eqb k l) false (used net.links false live k))
   up_is =
-      used-is net.links false (set live l false) _ (λ k h. rw (used-in net.links false live k h) (go k (look (eqb k l))))
-      (λ k h. rw (used-out net.links false live k h) (same (eqb k l)))
+      used_is net.links false (set live l false) _ (λ k h. rw (used_in net.links false live k h) (go k (look (eqb k l))))
+      (λ k h. rw (used_out net.links false live k h) (same (eqb k l)))
     where
       go : (k : ℕ) → (eqb k l ≡ true) ⊎ (eqb k l ≡ false) → get_or (set live l false) k false ≡ cond (eqb k l) false (get_or live k false)
       go k (inl e) = rw (e, eqb-true k l e) (get_or-set_same live l false false (omega arith))
@@ -57,9 +57,9 @@ module _ (net : Net) (live out local remote mark : List Bool) (turns : List ℕ)
 
   marks_are : used K false (set (set mark (2 * l) false) (2 * l + 1) false) ≡ (λ x. cond (eqb (link_of x) l) false (used K false mark x))
   marks_are =
-      used-is K false (set (set mark (2 * l) false) (2 * l + 1) false) _
-      (λ x h. rw (used-in K false mark x h) (go x (look (eqb x (2 * l + 1))) (look (eqb x (2 * l)))))
-      (λ x h. rw (used-out K false mark x h) (same (eqb (link_of x) l)))
+      used_is K false (set (set mark (2 * l) false) (2 * l + 1) false) _
+      (λ x h. rw (used_in K false mark x h) (go x (look (eqb x (2 * l + 1))) (look (eqb x (2 * l)))))
+      (λ x h. rw (used_out K false mark x h) (same (eqb (link_of x) l)))
     where
       long : length (set mark (2 * l) false) ≡ ends_most
       long = length-set mark (2 * l) false ∙ marks

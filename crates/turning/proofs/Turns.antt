@@ -15,7 +15,7 @@ use Rattle.model.specs.Below.{any}
 use Rattle.model.specs.Departure.{has_mark, reverses, turn}
 use Rattle.model.proofs.Below.{look, clash, any_false}
 use Rattle.arrays.specs.View.{used, ends_seen}
-use Rattle.arrays.proofs.Below.{used-in, used-is, used-out}
+use Rattle.arrays.proofs.Below.{used_in, used_is, used_out}
 use Rattle.turning.specs.Turned.{Long, ours, turns, Part, Turned}
 
 pick_is : (h a m : Bool) → (h && a || not h && m) ≡ cond h a m
@@ -185,7 +185,7 @@ module _ (node : List ℕ) (live : List Bool) (v : ℕ) (full : Bool) where
       module _ (marked : full ≡ not (has_mark S v)) where
         turns_inside : (x : ℕ) → x < K → turns (ours node v 0 to x) full (alive x) (get_or mark x false) ≡ reverses S v x
         turns_inside x h =
-            rw (all_ours x h, marked, used-in K 0 node x h, used-in K false mark x h, used-in links false live (x / 2) (omega arith)) (go (has_mark S v))
+            rw (all_ours x h, marked, used_in K 0 node x h, used_in K false mark x h, used_in links false live (x / 2) (omega arith)) (go (has_mark S v))
           where
             go : (b : Bool) → (here x && cond (not b) (alive x) (get_or mark x false))
                 ≡ cond b (here x && get_or mark x false) (here x && alive x)
@@ -198,20 +198,20 @@ module _ (node : List ℕ) (live : List Bool) (v : ℕ) (full : Bool) where
 
         turns_out : (x : ℕ) → K ≤ x → reverses S v x ≡ false
         turns_out x h =
-            rw (used-out K false mark x h, used-out links false live (x / 2) (omega arith), and-false (eqb (used K 0 node x) v)) (cond_same (has_mark S v))
+            rw (used_out K false mark x h, used_out links false live (x / 2) (omega arith), and-false (eqb (used K 0 node x) v)) (cond_same (has_mark S v))
 
         pub part_all : {outs locals marks : List Bool} → Part node live v full 0 to out local mark outs locals marks → Turned S v outs locals marks
         unfolding turn
         part_all {outs} {locals} {marks} p =
             record {
               long = p.long;
-              out = used-is K false outs (turn S v).ends.out
-                  (λ x h. p.out_at x ∙ rw (turns_inside x h, used-in K false out x h))
-                  (λ x h. rw (turns_out x h, used-out K false out x h));
-              local = used-is K false locals (turn S v).ends.local
-                  (λ x h. p.local_at x ∙ rw (turns_inside x h, used-in K false local x h))
-                  (λ x h. rw (turns_out x h, used-out K false local x h));
-              mark = used-is K false marks (turn S v).ends.mark
-                  (λ x h. p.mark_at x ∙ rw (turns_inside x h, all_ours x h, used-in K 0 node x h, used-in K false out x h, used-in K false mark x h, used-in links false live (x / 2) (omega arith)))
-                  (λ x h. rw (used-out links false live (x / 2) (omega arith), used-out K false mark x h) (sym (cond_same (eqb (used K 0 node x) v))));
+              out = used_is K false outs (turn S v).ends.out
+                  (λ x h. p.out_at x ∙ rw (turns_inside x h, used_in K false out x h))
+                  (λ x h. rw (turns_out x h, used_out K false out x h));
+              local = used_is K false locals (turn S v).ends.local
+                  (λ x h. p.local_at x ∙ rw (turns_inside x h, used_in K false local x h))
+                  (λ x h. rw (turns_out x h, used_out K false local x h));
+              mark = used_is K false marks (turn S v).ends.mark
+                  (λ x h. p.mark_at x ∙ rw (turns_inside x h, all_ours x h, used_in K 0 node x h, used_in K false out x h, used_in K false mark x h, used_in links false live (x / 2) (omega arith)))
+                  (λ x h. rw (used_out links false live (x / 2) (omega arith), used_out K false mark x h) (sym (cond_same (eqb (used K 0 node x) v))));
             }

@@ -15,7 +15,7 @@ use borrow.Fn.Kinds.{Dens, ended_of}
 use Rattle.model.proofs.Below.{look}
 use Rattle.arrays.specs.View.{Threaded}
 use Rattle.ways.specs.declared.chain.Threads.{Threads}
-use Rattle.ways.proofs.chain.thread.Kinds as thread-kinds
+use Rattle.ways.proofs.chain.thread.Kinds as thread_kinds
 use Rattle.ways.proofs.chain.thread.Reads as thread
 
 module _ (links : ℕ) (node heads next heads' next' : List ℕ) (p : Threaded links node heads next 0) (q : Threaded links node heads' next' 0) where
@@ -33,7 +33,7 @@ module _ (links : ℕ) (node heads next heads' next' : List ℕ) (p : Threaded l
   same_next : next ≡ next'
   same_next = ext_get_or 0 next next' (p.next_long ∙ sym q.next_long) (λ x h. by x h (look (ltb x (2 * links))))
 
-pub thread_one : (κs : Lfts 1) (a : Dens κs thread-kinds.ps) (r r' : Threads) (x x' : AtExit (ended_of 1 thread-kinds.ps thread-kinds.r) κs)
+pub thread_one : (κs : Lfts 1) (a : Dens κs thread_kinds.ps) (r r' : Threads) (x x' : AtExit (ended_of 1 thread_kinds.ps thread_kinds.r) κs)
     → thread.Post κs a r x → thread.Post κs a r' x' → r ≡ r'
 thread_one κs a r r' x x' p q =
     λ i. record { heads = same_heads _ _ r.heads r.next r'.heads r'.next p q i; next = same_next _ _ r.heads r.next r'.heads r'.next p q i }

@@ -11,7 +11,7 @@ use Rattle.model.specs.Departure.{has_live, has_out, door}
 use Rattle.model.specs.Outcome.{counted, gives, onward}
 use Rattle.arrays.specs.declared.Tally.{Tally}
 use Rattle.arrays.specs.View.{ends_seen}
-use Rattle.arrays.proofs.Below.{used-in}
+use Rattle.arrays.proofs.Below.{used_in}
 use Rattle.departs.specs.Steps.{state_with}
 use Rattle.departs.proofs.Ways.{has_way, no_way, onward_by, onward_turned, turn_finds}
 use Rattle.departs.proofs.Tallies.{counted_is, done_stays, done_leaves, bare_stays, stays_long, leaves_long, answer_is, still}
@@ -118,7 +118,7 @@ turned_way-y-requires c =
       c.if-nodes-v.false,
       omega (arith, c.requires.0.turned a.v c.if-nodes-v.false, c.requires.1),
       turn_finds (ends (goal.at.turned_way-y-requires c).Start) a.v
-          (λ x h m. used-in a.links false a.live.now (x / 2) (omega arith) ∙ c.requires.0.marks x h (sym (used-in (2 * a.links) false a.mark.now x h) ∙ m))
+          (λ x h m. used_in a.links false a.live.now (x / 2) (omega arith) ∙ c.requires.0.marks x h (sym (used_in (2 * a.links) false a.mark.now x h) ∙ m))
           (sym c.held.ensures ∙ c.if-not-held.false) (no_way (ends (goal.at.turned_way-y-requires c).Start) a.v _ c.way-x.ensures c.if-links-x.true),
       c.requires.2,
       c.requires.3,

@@ -15,7 +15,7 @@ use Rattle.model.proofs.Ends.{opp_below, link_opp}
 use Rattle.model.proofs.Lanes.{less_length}
 use Rattle.arrays.specs.View.{net_of, ends_of, counts_of}
 use Rattle.arrays.specs.Told.{oldest_in}
-use Rattle.arrays.proofs.Below.{used-in}
+use Rattle.arrays.proofs.Below.{used_in}
 use Rattle.departs.specs.Steps.{state_with}
 use Rattle.arrivals.specs.Landing.{landed}
 use Rattle.departs.proofs.Tallies.{still}
@@ -81,12 +81,12 @@ module _ (c : goal.After-other-y) where
     one = told_oldest (on_lane c.args.x flight) e there.one
 
     was_out : (seen flight).ends.out y ≡ was
-    was_out = used-in (2 * c.args.links) false c.args.out.now y (within c)
+    was_out = used_in (2 * c.args.links) false c.args.out.now y (within c)
 
     said : xor one.packet.bit ((seen flight).ends.remote y) ≡ fresh
     said =
         ap (λ b. xor b ((seen flight).ends.remote y)) (sym one.bit)
-        ∙ ap (xor c.args.told.bit) (used-in (2 * c.args.links) false c.args.remote.now y (within c))
+        ∙ ap (xor c.args.told.bit) (used_in (2 * c.args.links) false c.args.remote.now y (within c))
         ∙ sym (fresh_is c.args.told.bit (get_or c.args.remote.now y false))
 
     one_less : length flight ≡ c.args.tally.flying → length (less c.args.x flight) ≡ c.args.tally.flying - 1
@@ -145,7 +145,7 @@ land-requires c =
       s.named y inside,
       omega (arith, s.turned (get_or a.node.now y 0) (s.named y inside), c.requires.1),
       omega (arith, s.flying, c.requires.2 t.one),
-      held_at _ (get_or a.node.now y 0) y inside (used-in (2 * a.links) 0 a.node.now y inside) (used-in a.links false a.live.now (y / 2) (omega (arith, inside)) ∙ link),
+      held_at _ (get_or a.node.now y 0) y inside (used_in (2 * a.links) 0 a.node.now y inside) (used_in a.links false a.live.now (y / 2) (omega (arith, inside)) ∙ link),
       record {
         long = record {
           out_long = ap length c.hear.ensures.0 ∙ length-set a.out.now y _ ∙ c.requires.3.long.out_long;

@@ -10,7 +10,7 @@ use Rattle.model.specs.State.{State, Packet}
 use Rattle.model.specs.Departure.{has_live}
 use Rattle.model.specs.Outcome.{gives, leaves, onward}
 use Rattle.arrays.specs.declared.Tally.{Tally}
-use Rattle.arrays.proofs.Below.{used-in}
+use Rattle.arrays.proofs.Below.{used_in}
 use Rattle.departs.specs.Steps.{state_with}
 use Rattle.departs.proofs.Tallies.{counted_is, done_stays, done_leaves, stays_long, leaves_long}
 use Rattle.arrivals.proofs.Deliveries.{lands_home, lands_back, lands_on}
@@ -25,11 +25,11 @@ seen c remote flight t =
 
 -- the node of end y, as the state has it
 at_node : (c : goal.Start) (remote : List Bool) (flight : List Packet) {v : ℕ} → v ≡ get_or c.args.node.now c.args.y 0 → (seen c remote flight c.args.tally).net.node c.args.y ≡ v
-at_node c remote flight e = let a = c.args in used-in (2 * a.links) 0 a.node.now a.y c.requires.2 ∙ sym e
+at_node c remote flight e = let a = c.args in used_in (2 * a.links) 0 a.node.now a.y c.requires.2 ∙ sym e
 
 -- whether that end is Out
 at_out : (c : goal.Start) (remote : List Bool) (flight : List Packet) {b : Bool} → get_or c.args.out.now c.args.y false ≡ b → (seen c remote flight c.args.tally).ends.out c.args.y ≡ b
-at_out c remote flight e = let a = c.args in used-in (2 * a.links) false a.out.now a.y c.requires.2 ∙ e
+at_out c remote flight e = let a = c.args in used_in (2 * a.links) false a.out.now a.y c.requires.2 ∙ e
 
 pub counted-requires : goal.counted-requires
 counted-requires c = (c.requires.10, omega arith, omega arith, omega arith, omega arith)

@@ -8,7 +8,7 @@ use Rattle.model.specs.State.{Packet}
 use Rattle.model.specs.Departure.{has_out, door}
 use Rattle.arrays.specs.declared.Tally.{Tally}
 use Rattle.arrays.specs.View.{ends_seen}
-use Rattle.arrays.proofs.Below.{used-in}
+use Rattle.arrays.proofs.Below.{used_in}
 use Rattle.departs.specs.Steps.{state_with}
 use Rattle.departs.proofs.Ways.{no_way, onward_by, onward_turned, turn_finds}
 use Rattle.departs.proofs.depart.onward.Goals as goal
@@ -26,7 +26,7 @@ turned_way-requires c =
       c.requires.2,
       c.requires.3,
       turn_finds ends a.v
-          (λ x h m. used-in a.links false a.live.now (x / 2) (omega arith) ∙ c.requires.7 x h (sym (used-in (2 * a.links) false a.mark.now x h) ∙ m))
+          (λ x h m. used_in a.links false a.live.now (x / 2) (omega arith) ∙ c.requires.7 x h (sym (used_in (2 * a.links) false a.mark.now x h) ∙ m))
           c.requires.4 (no_way ends a.v _ c.way-x.ensures c.if-links-x.true),
       c.requires.5,
       c.requires.6,

@@ -14,7 +14,7 @@ use Rattle.model.proofs.Lanes.{off_length}
 use Rattle.arrays.specs.declared.Tally.{Tally}
 use Rattle.arrays.specs.View.{net_of, counts_of}
 use Rattle.arrays.specs.Told.{passed, cleared}
-use Rattle.arrays.proofs.Below.{used-in}
+use Rattle.arrays.proofs.Below.{used_in}
 use Rattle.departs.specs.declared.tally.Step.{Step}
 use Rattle.departs.specs.Steps.{state_with, outcome_of}
 use Rattle.departs.proofs.Tallies.{counted_is, tally_is, answer_is}
@@ -57,7 +57,7 @@ returns-then-not-live-l c =
     let a = c.args in (
       λ node out local remote turns nodes destination flight many formed.
           bare_seen (goal.at.returns-then-not-live-l c).Start node out local remote turns nodes destination flight c.bare-then-not-live-l.ensures refl
-          ∙ fail_down (seen (goal.at.returns-then-not-live-l c).Start node out local remote turns nodes destination flight) a.l formed c.requires.3.events c.if-links-l.false (used-in a.links false a.live.now a.l c.if-links-l.false ∙ c.if-not-live-l.true),
+          ∙ fail_down (seen (goal.at.returns-then-not-live-l c).Start node out local remote turns nodes destination flight) a.l formed c.requires.3.events c.if-links-l.false (used_in a.links false a.live.now a.l c.if-links-l.false ∙ c.if-not-live-l.true),
       λ local flight gone many. bare_long local a.l flight c.bare-then-not-live-l.ensures many,
       c.requires.4,
       c.requires.5,
@@ -89,7 +89,7 @@ returns c =
           (counted_is node (set a.live.now a.l false) out local remote (set (set a.mark.now (2 * a.l) false) (2 * a.l + 1) false) turns nodes destination a.links (off a.l flight) a.tally (a.tally.flying - a.gone) 0 0 a.gone 0 c.counted.ensures
           ∙ ap (λ (s : State). counted s 0 0 a.gone 0)
           (cut_is (net_of nodes destination a.links node) a.live.now out local remote a.mark.now turns flight (off a.l flight) (counts_of a.tally) a.l c.if-links-l.false c.requires.0 c.requires.4 c.requires.5 refl))
-          ∙ fail_cuts (seen (goal.at.returns c).Start node out local remote turns nodes destination flight) a.l formed c.requires.3.events c.if-links-l.false (used-in a.links false a.live.now a.l c.if-links-l.false ∙ c.if-not-live-l.false) a.gone many,
+          ∙ fail_cuts (seen (goal.at.returns c).Start node out local remote turns nodes destination flight) a.l formed c.requires.3.events c.if-links-l.false (used_in a.links false a.live.now a.l c.if-links-l.false ∙ c.if-not-live-l.false) a.gone many,
       λ local flight gone many. bare_long local a.l flight c.bare-2.ensures (omega (arith, gone, many, off_length a.l flight, ap (λ (t : Tally). t.flying) c.counted.ensures)),
       length-set a.live.now a.l false ∙ c.requires.4,
       length-set (set a.mark.now (2 * a.l) false) (2 * a.l + 1) false ∙ length-set a.mark.now (2 * a.l) false ∙ c.requires.5,
