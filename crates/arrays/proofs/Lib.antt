@@ -1,4 +1,5 @@
 pub mod Below
+pub mod Parts
 pub mod Loops
 pub mod Searches
 pub mod Ends

@@ -1,7 +1,6 @@
 -- By its side. Assumes nothing.
 use native.Mathlib.Omega.{arith}
 use Rattle.model.specs.State.{opp}
-use borrow.Author.Rules.{rules}
 use Rattle.arrays.proofs.number.other.Goals as goal
 
 pub returns : goal.returns
