@@ -12,6 +12,7 @@ use Rattle.model.specs.declared.Handled.{Handled}
 use Rattle.model.specs.declared.Handled.TheVariants as handled
 use Rattle.model.specs.declared.Went.{Went}
 use Rattle.model.specs.declared.Went.TheVariants as went
+use Rattle.std.specs.Prelude.{None}
 use Rattle.model.specs.State.{Packet}
 use Rattle.model.specs.Lanes.{on_lane, less}
 use Rattle.model.specs.Fail.{off}
@@ -21,7 +22,7 @@ use Rattle.arrays.specs.Told.{oldest_in, tells, left, passed, flies}
 
 -- ---- what they tell: of no packet, and so many on the link
 abbrev pub absent : ℕ → Told
-absent gone = record { there = false; number = 0; bit = false; gone = gone }
+absent gone = record { oldest = None; gone = gone }
 
 module _ (flight : List Packet) (kind a : ℕ) where
   pub tells_send : kind ≡ 1 → absent 0 ≡ tells flight kind a
@@ -38,13 +39,13 @@ module _ (flight : List Packet) (kind a : ℕ) where
     tells_lane e = rw (ne_eqb kind 1 n, ne_eqb kind 4 m, e)
 
     -- told of none, the lane has none
-    tells_empty : (tells flight kind a).there ≡ false → on_lane a flight ≡ []
+    tells_empty : (tells flight kind a).oldest ≡ None → on_lane a flight ≡ []
     unfolding tells
     tells_empty h = go (on_lane a flight) (rw (ne_eqb kind 1 n, ne_eqb kind 4 m) at h)
       where
-        go : (ps : List Packet) → (oldest_in ps).there ≡ false → ps ≡ []
+        go : (ps : List Packet) → (oldest_in ps).oldest ≡ None → ps ≡ []
         go [] e = refl
-        go (p ∷ ps) e = absurd (clash refl e)
+        go (p ∷ ps) e = cc
 
 -- ---- what an event leaves of them
 -- taking the oldest off a lane that has none changes nothing
@@ -74,8 +75,8 @@ module _ (kind a : ℕ) (flight : List Packet) where
       pub left_less : less a flight ≡ left kind a 0 flight
       left_less = rw (ne_eqb kind 1 n, ne_eqb kind 4 m)
 
-      pub left_none : (told : Told) → told ≡ tells flight kind a → told.there ≡ false → flight ≡ left kind a 0 flight
-      left_none told e h = sym (less_none a flight (tells_empty flight kind a n m (ap (λ (t : Told). t.there) (sym e) ∙ h))) ∙ left_less
+      pub left_none : (told : Told) → told ≡ tells flight kind a → told.oldest ≡ None → flight ≡ left kind a 0 flight
+      left_none told e h = sym (less_none a flight (tells_empty flight kind a n m (ap (λ (t : Told). t.oldest) (sym e) ∙ h))) ∙ left_less
 
 -- ---- a packet passes on where it left by a lane, and else none does
 module _ (local : List Bool) (flight : List Packet) where

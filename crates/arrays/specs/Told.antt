@@ -1,5 +1,5 @@
 -- What an event has to do with the packets in flight.
-use Rattle.std.specs.Prelude.{ℕ, ◌-◌, Bool, true, false, cond, List, [], ◌∷◌, ◌++◌, eqb, length, get_or}
+use Rattle.std.specs.Prelude.{ℕ, ◌-◌, Bool, false, cond, Some, None, List, [], ◌∷◌, ◌++◌, eqb, length, get_or}
 use Rattle.model.specs.declared.Handled.{Handled}
 use Rattle.model.specs.declared.Handled.TheVariants as handled
 use Rattle.model.specs.declared.Went.{Went}
@@ -12,11 +12,11 @@ use Rattle.arrays.specs.declared.Told.{Told}
 
 -- what they tell it, by its kind and argument: a send nothing, a failure how many are on its link, else the oldest of its lane
 abbrev pub oldest_in : List Packet → Told
-oldest_in [] = record { there = false; number = 0; bit = false; gone = 0 }
-oldest_in (p ∷ ps) = record { there = true; number = p.number; bit = p.bit; gone = 0 }
+oldest_in [] = record { oldest = None; gone = 0 }
+oldest_in (p ∷ ps) = record { oldest = Some (record { number = p.number; bit = p.bit }); gone = 0 }
 
 abbrev pub on_link : List Packet → ℕ → Told
-on_link flight l = record { there = false; number = 0; bit = false; gone = length flight - length (off l flight) }
+on_link flight l = record { oldest = None; gone = length flight - length (off l flight) }
 
 unfoldable pub tells : List Packet → ℕ → ℕ → Told
 tells flight kind a = cond (eqb kind 1) (oldest_in []) (cond (eqb kind 4) (on_link flight a) (oldest_in (on_lane a flight)))

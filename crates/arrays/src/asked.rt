@@ -1,5 +1,5 @@
 // What the packets tell an event.
-ghost use Rattle.std.specs.Prelude.{◌≡◌, false};
+ghost use Rattle.std.specs.Prelude.{◌≡◌, None};
 
 use crate::Told;
 
@@ -12,15 +12,10 @@ pub struct Asked {
 
 // No packet, and so many on the link.
 pub fn none(gone: usize) -> Asked
-    ensures { result ≡ record { told = record { there = false; number = 0; bit = false; gone = gone }; at = 0 } }
+    ensures { result ≡ record { told = record { oldest = None; gone = gone }; at = 0 } }
 {
     Asked {
-        told: Told {
-            there: false,
-            number: 0,
-            bit: false,
-            gone,
-        },
+        told: Told { oldest: None, gone },
         at: 0,
     }
 }

@@ -18,11 +18,16 @@ pub const MOVES: usize = 32;
 
 pub const SLOTS: usize = model::FLIGHT + MOVES;
 
+// A packet as an event is told of it.
+#[derive(Clone, Copy)]
+pub struct Oldest {
+    pub number: u32,
+    pub bit: bool,
+}
+
 // What the packets in flight tell an event: the oldest of its lane, or how many are on its link; a send nothing.
 #[derive(Clone, Copy)]
 pub struct Told {
-    pub there: bool,
-    pub number: u32,
-    pub bit: bool,
+    pub oldest: Option<Oldest>,
     pub gone: usize,
 }
