@@ -48,7 +48,7 @@ module _ (p : Plan) (a : Arrows) (v : ℕ) where
     pub second_is : test (2 * l) ≡ false → out_end S v l ≡ 2 * l + 1
     second_is t = let e : 2 * l + 0 ≡ 2 * l = omega arith in rw (e, ← out_is (2 * l) (omega arith), t)
 
-  -- p.links without an end that is Out at the p.node are passed
+  -- links without an end that is Out at the node are passed
   pub passes : (k : ℕ) → k ≤ p.links → any (λ x. eqb (get_or p.node x 0) v && get_or a.out x false) (2 * k) ≡ false
       → first (out_link S v) 0 p.links ≡ first (out_link S v) k (p.links - k)
   passes k h e =

@@ -4,6 +4,7 @@ use native.Mathlib.Omega.{arith}
 use mathlib.Core.Path.{◌≡◌, ap, subst, sym}
 use mathlib.Core.Logic.{inl, inr}
 use mathlib.Core.Bool.{true, false}
+use Rattle.std.specs.Prelude.{Some, None}
 use Rattle.model.specs.State.{end, link_of, State, lanes}
 use Rattle.model.specs.Below.{first}
 use Rattle.model.specs.Departure.{out_at, out_link, out_end, has_out, door}
@@ -25,9 +26,9 @@ module _ (s : State) (v l : ℕ) (q : l ≡ first (out_link s v) 0 s.net.links) 
       | inr e ↦ any_here (out_at s v) (lanes s) (end l 1) (omega arith) e
     ]
 
-    pub way_found : out_end s v l ≡ way_out_of s v
+    pub way_found : {x : ℕ} → x ≡ out_end s v l → Some x ≡ way_out_of s v
     unfolding door
-    way_found = rw some_out (ap (out_end s v) q)
+    way_found e = rw (some_out, e) (ap (λ m. Some (out_end s v m)) q)
 
   module _ (h : s.net.links ≤ l) where
     none_out : has_out s v ≡ false
@@ -39,5 +40,5 @@ module _ (s : State) (v l : ℕ) (q : l ≡ first (out_link s v) 0 s.net.links) 
           | inr e ↦ subst (λ y. out_at s v y ≡ false) (sym e) n.1
         ])
 
-    pub way_none : lanes s ≡ way_out_of s v
+    pub way_none : None ≡ way_out_of s v
     way_none = rw none_out

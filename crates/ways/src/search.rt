@@ -1,132 +1,75 @@
 // Searches over the ends of a node.
-ghost use Rattle.std.specs.Prelude.{◌≡◌, false, ◌&&◌, [], ◌+◌, ◌-◌, ◌*◌, ◌/◌, ◌≤◌, ◌<◌, eqb, get_or};
+ghost use Rattle.std.specs.Prelude.{◌≡◌, false, ◌&&◌, ◌+◌, ◌*◌, ◌/◌, ◌≤◌, ◌<◌, eqb, get_or};
 ghost use Rattle.model.specs.Limits.{links_most, ends_most};
-ghost use Rattle.model.specs.Below.{any, first};
-ghost use Rattle.model.specs.Departure.{out_link, has_live};
+ghost use Rattle.model.specs.Below.{any};
+ghost use Rattle.model.specs.Departure.{has_live};
 ghost use Rattle.arrays.specs.View.{ends_seen, way_out_of};
 
-use arrays::BLOCK;
+use arrays::{Arrows, BLOCK, Plan};
 
 // Whether some end of the block is Out and at the node.
-fn out_block<'a>(
-    node: &'a [u16; model::ENDS],
-    out: &'a [bool; model::ENDS],
-    from: usize,
-    v: u16,
-) -> bool
+fn out_block(plan: &Plan, arrows: &Arrows, from: usize, v: u16) -> bool
     requires { from + 16 ≤ ends_most }
-    ensures { result ≡ any (λ j. eqb (get_or node.now (from + j) 0) v && get_or out.now (from + j) false) 16 }
+    ensures { result ≡ any (λ j. eqb (get_or plan.now.node (from + j) 0) v && get_or arrows.now.out (from + j) false) 16 }
 {
     let mut some = false;
-    let mut j: usize = 0;
-    while j < BLOCK {
-        some = some | ((node[from + j] == v) & out[from + j]);
-        j += 1;
+    for j in 0..BLOCK {
+        some |= (plan.node[from + j] == v) & arrows.out[from + j];
     }
     some
 }
 
 // How many links whole blocks pass before one that has an Out end at the node.
-fn passed<'a>(
-    node: &'a [u16; model::ENDS],
-    out: &'a [bool; model::ENDS],
-    links: usize,
-    v: u16,
-) -> usize
-    requires { links ≤ links_most }
-    ensures { (result ≤ links) × (any (λ x. eqb (get_or node.now x 0) v && get_or out.now x false) (2 * result) ≡ false) }
+fn passed(plan: &Plan, arrows: &Arrows, v: u16) -> usize
+    requires { plan.now.links ≤ links_most }
+    ensures within { result ≤ plan.now.links }
+    ensures none { any (λ x. eqb (get_or plan.now.node x 0) v && get_or arrows.now.out x false) (2 * result) ≡ false }
 {
-    let mut l: usize = 0;
-    loop {
-        if links < l + BLOCK / 2 {
-            break l;
+    let blocks = plan.links / (BLOCK / 2);
+    for b in 0..blocks {
+        if out_block(plan, arrows, b * BLOCK, v) {
+            return b * (BLOCK / 2);
         }
-        if out_block(node, out, 2 * l, v) {
-            break l;
-        }
-        l += BLOCK / 2;
     }
+    blocks * (BLOCK / 2)
 }
 
 // Whether the end is at the node, is Out, and has its link.
-fn out_at<'a>(
-    node: &'a [u16; model::ENDS],
-    live: &'a [bool; model::LINKS],
-    out: &'a [bool; model::ENDS],
-    v: u16,
-    x: usize,
-) -> bool
+fn out_at(plan: &Plan, arrows: &Arrows, v: u16, x: usize) -> bool
     requires { x < ends_most }
-    ensures { result ≡ (eqb (get_or node.now x 0) v && get_or live.now (x / 2) false && get_or out.now x false) }
+    ensures { result ≡ (eqb (get_or plan.now.node x 0) v && get_or arrows.now.live (x / 2) false && get_or arrows.now.out x false) }
 {
-    if node[x] != v {
-        return false;
-    }
-    live[x / 2] & out[x]
+    plan.node[x] == v && arrows.live[x / 2] & arrows.out[x]
 }
 
-// The first live link from one on whose end at the node is Out, or the number of links.
-fn lowest<'a>(
-    node: &'a [u16; model::ENDS],
-    live: &'a [bool; model::LINKS],
-    out: &'a [bool; model::ENDS],
-    links: usize,
-    v: u16,
-    from: usize,
-) -> usize
-    requires { (links ≤ links_most) × (from ≤ links) }
-    ensures { result ≡ first (out_link (ends_seen links node.now live.now out.now [] []) v) from (links - from) }
+// The end at which a packet leaves the node, if some link leads out: over all links.
+pub(crate) fn way_out(plan: &Plan, arrows: &Arrows, v: u16) -> Option<usize>
+    requires { plan.now.links ≤ links_most }
+    ensures { result ≡ way_out_of (ends_seen plan.now arrows.now) v }
 {
-    let mut l = from;
+    let mut l = passed(plan, arrows, v);
     loop {
-        if links <= l {
-            break links;
+        if plan.links <= l {
+            break None;
         }
-        if out_at(node, live, out, v, 2 * l) || out_at(node, live, out, v, 2 * l + 1) {
-            break l;
+        if out_at(plan, arrows, v, 2 * l) {
+            break Some(2 * l);
+        }
+        if out_at(plan, arrows, v, 2 * l + 1) {
+            break Some(2 * l + 1);
         }
         l += 1;
     }
 }
 
-// The end at which a packet leaves the node, or the number of ends where no link leads out: over all links.
-pub(crate) fn way_out<'a>(
-    node: &'a [u16; model::ENDS],
-    live: &'a [bool; model::LINKS],
-    out: &'a [bool; model::ENDS],
-    links: usize,
-    v: u16,
-) -> usize
-    requires { links ≤ links_most }
-    ensures { result ≡ way_out_of (ends_seen links node.now live.now out.now [] []) v }
-{
-    let from = passed(node, out, links, v);
-    let l = lowest(node, live, out, links, v, from);
-    if links <= l {
-        return 2 * links;
-    }
-    if out_at(node, live, out, v, 2 * l) {
-        return 2 * l;
-    }
-    2 * l + 1
-}
-
 // Whether the node has a live end.
-pub fn held<'a>(
-    node: &'a [u16; model::ENDS],
-    live: &'a [bool; model::LINKS],
-    links: usize,
-    v: u16,
-) -> bool
-    requires { links ≤ links_most }
-    ensures { result ≡ has_live (ends_seen links node.now live.now [] [] []) v }
+pub fn held(plan: &Plan, arrows: &Arrows, v: u16) -> bool
+    requires { plan.now.links ≤ links_most }
+    ensures { result ≡ has_live (ends_seen plan.now arrows.now) v }
 {
-    let ends = 2 * links;
     let mut some = false;
-    let mut x: usize = 0;
-    while x < ends {
-        some = some | ((node[x] == v) & live[x / 2]);
-        x += 1;
+    for x in 0..2 * plan.links {
+        some |= (plan.node[x] == v) & arrows.live[x / 2];
     }
     some
 }

@@ -1,31 +1,39 @@
 use native.Mathlib.Omega.{arith}
-use Rattle.ways.proofs.Chains.{walked_start, walked_next, walked_on, walked_found, walked_end}
+use mathlib.Core.Path.{◌∙◌}
+use Rattle.arrays.specs.View.{ends_seen}
+use Rattle.ways.proofs.Chains.{walked_start, walked_next, walked_on, walked_found, walked_end, leads_by}
+use Rattle.ways.proofs.Doors.{leads, way_found, way_none}
 use Rattle.ways.proofs.chain.along.Goals as goal
 
 pub loop-l-init : goal.loop-l-init
 loop-l-init c =
     let a = c.args in
-    rw c.wide-l.ensures (walked_start a.links a.node.now a.live.now a.out.now a.v a.heads.now a.next.now c.requires.2)
+    rw c.from-l.ensures (walked_start a.plan.now a.arrows.now a.v a.threads.now c.requires.chain)
 
 pub loop-l-smaller : goal.loop-l-smaller
 loop-l-smaller c =
     let a = c.args in
     let h = c.loop-l in
-    omega (arith, c.wide-l-in-loop-l.ensures, walked_on a.links a.node.now a.live.now a.out.now a.v a.heads.now a.next.now c.requires.2 h.l h.invariant (omega arith) c.end_at-x.ensures.0)
+    omega (arith, c.from-l-in-loop-l.ensures, walked_on a.plan.now a.arrows.now a.v a.threads.now c.requires.chain h.l h.invariant (omega arith) c.end_at-x.ensures.is)
 
 pub loop-l-preserved : goal.loop-l-preserved
 loop-l-preserved c =
     let a = c.args in
     let h = c.loop-l in
-    rw c.wide-l-in-loop-l.ensures (walked_next a.links a.node.now a.live.now a.out.now a.v a.heads.now a.next.now c.requires.2 h.l h.invariant (omega arith) c.end_at-x.ensures.0 c.if-live-l.false)
+    rw c.from-l-in-loop-l.ensures
+    (walked_next a.plan.now a.arrows.now a.v a.threads.now c.requires.chain h.l h.invariant (omega arith) c.end_at-x.ensures.is c.if-arrows-l.false)
 
-pub returns-then-links-l : goal.returns-then-links-l
-returns-then-links-l c =
-    let a = c.args in
-    walked_end a.links a.node.now a.live.now a.out.now a.v c.loop-l.l c.loop-l.invariant c.if-links-l.true
-
-pub returns-then-live-l : goal.returns-then-live-l
-returns-then-live-l c =
+pub returns-then-plan-l : goal.returns-then-plan-l
+returns-then-plan-l c =
     let a = c.args in
     let h = c.loop-l in
-    walked_found a.links a.node.now a.live.now a.out.now a.v a.heads.now a.next.now c.requires.2 h.l h.invariant (omega arith) c.end_at-x.ensures.0 c.if-live-l.true
+    way_none (ends_seen a.plan.now a.arrows.now) a.v a.plan.now.links (walked_end a.plan.now a.arrows.now a.v h.l h.invariant c.if-plan-l.true) (omega arith)
+
+pub returns-then-arrows-l : goal.returns-then-arrows-l
+returns-then-arrows-l c =
+    let a = c.args in
+    let h = c.loop-l in
+    let s = ends_seen a.plan.now a.arrows.now in
+    let q = walked_found a.plan.now a.arrows.now a.v a.threads.now c.requires.chain h.l h.invariant (omega arith) c.end_at-x.ensures.is c.if-arrows-l.true in
+    way_found s a.v h.l q (omega arith)
+    (c.end_at-x.ensures.is ∙ leads_by a.plan.now a.arrows.now a.v a.threads.now c.requires.chain h.l (omega arith) (leads s a.v h.l q (omega arith)))

@@ -4,7 +4,7 @@ use Rattle.ways.proofs.Chains.{Walked}
 use Rattle.ways.proofs.chain.along.Given as goal
 
 abbrev pub invariant-loop-l : goal.invariant-loop-l
-invariant-loop-l l = Walked l.links l.node l.live l.out l.v l.l
+invariant-loop-l l = Walked l.plan l.arrows l.v l.l
 
 abbrev pub decreases-loop-l : goal.decreases-loop-l
-decreases-loop-l l = l.links - l.l
+decreases-loop-l l = l.plan.links - l.l

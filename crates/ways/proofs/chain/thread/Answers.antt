@@ -7,24 +7,24 @@ use Rattle.ways.proofs.Chains.{threaded_none, threaded_more}
 use borrow.Author.Rules.{rules}
 use Rattle.ways.proofs.chain.thread.Goals as goal
 
-pub loop-l-init : goal.loop-l-init
-loop-l-init c = (
-  omega arith,
-  threaded_none c.args.links c.args.node.now _ _ (search rules) (search rules) (λ v b. get_or-replicate nodes_most v _ 0 b) (λ x b. get_or-replicate ends_most x 0 0 b),
-)
+pub loop-k-init : goal.loop-k-init
+loop-k-init c =
+    let all : c.args.plan.now.links - 0 ≡ c.args.plan.now.links = omega arith in
+    rw all
+    (threaded_none c.args.plan.now _ _ (search rules) (search rules) (λ v b. get_or-replicate nodes_most v _ 0 b) (λ x b. get_or-replicate ends_most x 0 0 b))
 
-pub loop-l-preserved : goal.loop-l-preserved
-loop-l-preserved c =
-    let h = c.loop-l in
-    let l = h.l - 1 in
-    let on : l + 1 ≡ h.l = omega arith in (
-      omega arith,
-      rw (c.wide-v.ensures, c.wide-w.ensures)
-          (threaded_more c.args.links c.args.node.now h.heads h.next l (rw on h.invariant.1) (omega arith) c.requires.0 c.requires.1),
-    )
+pub loop-k-preserved : goal.loop-k-preserved
+loop-k-preserved c =
+    let h = c.loop-k in
+    let n = c.args.plan.now.links in
+    let l = n - 1 - h.k in
+    let here : n - (h.k + 1) ≡ l = omega arith in
+    let on : n - h.k ≡ l + 1 = omega arith in
+    rw (here, c.from-v.ensures, c.from-w.ensures)
+    (threaded_more c.args.plan.now h.heads h.next l (rw on at h.invariant) (omega arith) c.requires.fits c.requires.named)
 
 pub returns : goal.returns
 returns c =
-    let h = c.loop-l in
-    let z : h.l ≡ 0 = omega arith in
-    rw z at h.invariant.1
+    let h = c.loop-k in
+    let e : c.args.plan.now.links - h.k ≡ 0 = omega arith in
+    rw e at h.invariant

@@ -1,10 +1,7 @@
--- The links from l on are threaded. Assumes nothing.
-use Prim.Native.Nat.{◌≤◌}
-use Rattle.arrays.specs.View.{Threaded}
+-- The last k links are threaded. Assumes nothing.
+use Prim.Native.Nat.{◌-◌}
+use Rattle.ways.specs.Chains.{Threaded}
 use Rattle.ways.proofs.chain.thread.Given as goal
 
-abbrev pub invariant-loop-l : goal.invariant-loop-l
-invariant-loop-l l = (l.l ≤ l.links) × Threaded l.links l.node l.heads l.next l.l
-
-abbrev pub decreases-loop-l : goal.decreases-loop-l
-decreases-loop-l l = l.l
+abbrev pub invariant-loop-k : goal.invariant-loop-k
+invariant-loop-k l = Threaded l.plan (record { heads = l.heads; next = l.next }) (l.plan.links - l.k)

@@ -1,5 +1,5 @@
 -- The ends passed are those that were tested. Assumes nothing.
-use Prim.Native.Nat.{◌+◌, ◌-◌, ◌≤◌}
+use Prim.Native.Nat.{◌+◌}
 use mathlib.Core.Path.{◌≡◌}
 use mathlib.Core.Bool.{false, ◌&&◌}
 use lib.Dec.{eqb}
@@ -8,7 +8,4 @@ use Rattle.model.specs.Below.{any}
 use Rattle.ways.proofs.search.out_block.Given as goal
 
 abbrev pub invariant-loop-j : goal.invariant-loop-j
-invariant-loop-j l = (l.j ≤ 16) × (l.some ≡ any (λ i. eqb (get_or l.node (l.from + i) 0) l.v && get_or l.out (l.from + i) false) l.j)
-
-abbrev pub decreases-loop-j : goal.decreases-loop-j
-decreases-loop-j l = 16 - l.j
+invariant-loop-j l = l.some ≡ any (λ i. eqb (get_or l.plan.node (l.from + i) 0) l.v && get_or l.arrows.out (l.from + i) false) l.j
