@@ -3,27 +3,26 @@ use native.Mathlib.Omega.{arith}
 use mathlib.Core.Path.{◌≡◌}
 use Rattle.turning.proofs.Turns.{part_start, part_more, part_on}
 use Rattle.turning.proofs.arrows.turn_block.Goals as goal
+use Rattle.turning.proofs.arrows.turn_block.Goals.{then-plan-y, else-plan-y}
 
 pub loop-x-init : goal.loop-x-init
 loop-x-init c =
     let a = c.args in
     let z : a.from + 0 ≡ a.from = omega arith in
-    (omega arith, rw z (part_start a.node.now a.live.now a.v a.full a.out.now a.local.now a.mark.now a.from c.requires.1))
-
-pub loop-x-preserved-then-node-y : goal.loop-x-preserved-then-node-y
-loop-x-preserved-then-node-y c =
-    let h = c.loop-x in
-    let a = c.args in
-    (omega arith, part_more a.node.now a.live.now a.v a.full a.out.now a.local.now a.mark.now a.from (a.from + h.x) (a.from + (h.x + 1)) h.out h.local h.mark h.invariant.1 (omega arith) (omega arith) c.if-node-y.true (omega arith))
+    rw z (part_start a.plan.now a.v a.full a.arrows.now a.from)
 
 pub loop-x-preserved : goal.loop-x-preserved
 loop-x-preserved c =
     let h = c.loop-x in
     let a = c.args in
-    (omega arith, part_on a.node.now a.live.now a.v a.full a.out.now a.local.now a.mark.now a.from (a.from + h.x) (a.from + (h.x + 1)) h.out h.local h.mark h.invariant.1 (omega arith) (omega arith) c.if-node-y.false)
+    let on : a.from + (h.x + 1) ≡ a.from + h.x + 1 = omega arith in
+    rw on (elim c.if-plan-y.branch [
+      | then-plan-y w ↦ rw (w.arrows-is, w.turn_end.ensures.is) (part_more a.plan.now a.v a.full a.arrows.now h.arrows a.from (a.from + h.x) h.invariant (omega arith) (rw w.turn_end.ensures.is at w.turn_end.ensures.long) w.if-plan-y.true (omega arith))
+      | else-plan-y w ↦ rw w.arrows-is (part_on a.plan.now a.v a.full a.arrows.now h.arrows a.from (a.from + h.x) h.invariant (omega arith) w.if-plan-y.false)
+    ])
 
 pub returns : goal.returns
 returns c =
     let h = c.loop-x in
     let e : h.x ≡ 16 = omega arith in
-    rw e at h.invariant.1
+    rw e at h.invariant

@@ -1,35 +1,27 @@
-use Prim.Native.Nat.{◌+◌}
+use Prim.Native.Nat.{◌+◌, ◌*◌}
 use native.Mathlib.Omega.{arith}
-use mathlib.Core.Path.{sym, ◌∙◌}
-use Rattle.model.specs.Departure.{has_mark}
-use Rattle.turning.proofs.Turns.{part_start, part_join, part_pass, part_all}
+use mathlib.Core.Path.{◌≡◌, sym, ◌∙◌}
+use Rattle.turning.proofs.Turns.{part_start, part_join, part_block, part_all}
 use Rattle.turning.proofs.arrows.turn_ends.Goals as goal
+use Rattle.turning.proofs.arrows.turn_ends.Goals.{then-block_has, else-block_has}
 
-pub loop-next-init : goal.loop-next-init
-loop-next-init c =
+pub loop-block-init : goal.loop-block-init
+loop-block-init c =
     let a = c.args in
-    (omega arith, part_start a.node.now a.live.now a.v a.full a.out.now a.local.now a.mark.now 0 c.requires.2)
+    part_start a.plan.now a.v a.full a.arrows.now 0
 
-pub turn_block-requires : goal.turn_block-requires
-turn_block-requires c =
-    let h = c.loop-next in
-    (omega arith, h.invariant.1.long)
-
-pub loop-next-preserved-then-at_block : goal.loop-next-preserved-then-at_block
-loop-next-preserved-then-at_block c =
-    let h = c.loop-next in
+pub loop-block-preserved : goal.loop-block-preserved
+loop-block-preserved c =
+    let h = c.loop-block in
     let a = c.args in
-    (omega arith, part_join a.node.now a.live.now a.v a.full a.out.now a.local.now a.mark.now 0 h.next (h.next + 16) h.out h.local h.mark h.invariant.1 (omega arith) _ _ _ c.turn_block.ensures (omega arith))
+    let on : 16 * (h.block + 1) ≡ 16 * h.block + 16 = omega arith in
+    rw on (elim c.if-block_has.branch [
+      | then-block_has w ↦ rw w.arrows-is (part_join a.plan.now a.v a.full a.arrows.now h.arrows 0 (16 * h.block) h.invariant (omega arith) _ _ w.turn_block.ensures (omega arith))
+      | else-block_has w ↦ rw w.arrows-is (part_block a.plan.now a.v a.full a.arrows.now h.arrows 0 (16 * h.block) h.invariant (omega arith) (sym c.block_has.ensures ∙ w.if-block_has.false))
+    ])
 
-pub loop-next-preserved : goal.loop-next-preserved
-loop-next-preserved c =
-    let h = c.loop-next in
+pub returns-clause-ends : goal.returns-clause-ends
+returns-clause-ends c =
     let a = c.args in
-    (omega arith, part_pass a.node.now a.live.now a.v a.full a.out.now a.local.now a.mark.now 0 h.next (h.next + 16) h.out h.local h.mark h.invariant.1 (omega arith) (omega arith) (sym c.at_block.ensures ∙ c.if-at_block.false))
-
-pub returns : goal.returns
-unfolding has_mark
-returns c =
-    let a = c.args in
-    let h = c.loop-next in
-    part_all a.node.now a.live.now a.v a.full a.out.now a.local.now a.mark.now a.links h.next (omega arith) c.requires.1 h.invariant.1
+    let h = c.loop-block in
+    part_all a.plan.now a.v a.full a.arrows.now (16 * h.block) (omega arith) c.requires.mode h.invariant
