@@ -1,6 +1,6 @@
 -- What a step's answer and counts make of a state. Assumes nothing.
 use Prim.Native.Nat.{ℕ, ◌+◌, ◌*◌, ◌<◌}
-use mathlib.Core.Path.{◌≡◌, refl, sym, ap, ◌∙◌}
+use mathlib.Core.Path.{◌≡◌, sym, ap, ◌∙◌}
 use mathlib.Core.Bool.{Bool, false}
 use mathlib.Core.List.{List}
 use lib.ListN.{length, length-append}
@@ -11,39 +11,42 @@ use Rattle.model.specs.declared.Went.TheVariants as went
 use Rattle.model.specs.State.{Packet}
 use Rattle.model.specs.Departure.{pass}
 use Rattle.model.specs.Outcome.{counted, gives, leaves}
-use Rattle.arrays.specs.declared.Tally.{Tally}
+use Rattle.arrays.specs.declared.record.Plan.{Plan}
+use Rattle.arrays.specs.declared.record.Arrows.{Arrows}
+use Rattle.arrays.specs.declared.record.Tally.{Tally}
+use Rattle.arrays.specs.View.{shown}
 use Rattle.arrays.specs.Told.{passed_by, passed}
 use Rattle.arrays.proofs.Below.{used_in}
 use Rattle.departs.specs.declared.tally.Step.{Step}
-use Rattle.departs.specs.Steps.{state_with, outcome_of, tally_after, Still}
+use Rattle.departs.specs.Steps.{outcome_of, tally_after}
 
-module _ (node : List ℕ) (live out local remote mark : List Bool) (turns : List ℕ) (nodes destination links : ℕ) (flight : List Packet) where
+module _ (p : Plan) (a : Arrows) (flight : List Packet) where
   -- counted, the packets in flight apart
   pub counted_is : (t : Tally) {t' : Tally} (k admitted delivered lost stranded : ℕ) → t' ≡ tally_after t k admitted delivered lost stranded
-      → state_with node live out local remote mark turns nodes destination links flight t'
-      ≡ counted (state_with node live out local remote mark turns nodes destination links flight t) admitted delivered lost stranded
+      → shown p a flight t'
+      ≡ counted (shown p a flight t) admitted delivered lost stranded
   unfolding counted
   counted_is t k admitted delivered lost stranded e = rw e
 
   module _ {r : Step} {t : Tally} where
     -- a packet was handled, and is in flight no more
-    pub done_stays : {n : ℕ} {w : Went} → r ≡ record { tally = t; answer = 0; handled = handled.Packet n; went = w } → passed_by local flight n w ≡ flight
-        → outcome_of (state_with node live out local remote mark turns nodes destination links (passed local flight r.handled r.went) r.tally) r
-        ≡ gives (state_with node live out local remote mark turns nodes destination links flight t) n w
+    pub done_stays : {n : ℕ} {w : Went} → r ≡ record { tally = t; answer = 0; handled = handled.Packet n; went = w } → passed_by a.local flight n w ≡ flight
+        → outcome_of (shown p a (passed a.local flight r.handled r.went) r.tally) r
+        ≡ gives (shown p a flight t) n w
     done_stays q s = rw (q, s)
 
     -- it left by end x
-    pub done_leaves : {n x : ℕ} → r ≡ record { tally = t; answer = 0; handled = handled.Packet n; went = went.Lane x } → x < 2 * links
-        → outcome_of (state_with node live out local remote mark turns nodes destination links (passed local flight r.handled r.went) r.tally) r
-        ≡ leaves (state_with node live out local remote mark turns nodes destination links flight t) x n
+    pub done_leaves : {n x : ℕ} → r ≡ record { tally = t; answer = 0; handled = handled.Packet n; went = went.Lane x } → x < 2 * p.links
+        → outcome_of (shown p a (passed a.local flight r.handled r.went) r.tally) r
+        ≡ leaves (shown p a flight t) x n
     unfolding pass
-    done_leaves {x = x} q h = rw (q, used_in (2 * links) false local x h)
+    done_leaves {x = x} q h = rw (q, used_in (2 * p.links) false a.local x h)
 
     -- none was
     pub bare_stays : {answer : ℕ} → r ≡ record { tally = t; answer = answer; handled = handled.Nothing; went = went.Nowhere }
-        → outcome_of (state_with node live out local remote mark turns nodes destination links (passed local flight r.handled r.went) r.tally) r
+        → outcome_of (shown p a (passed a.local flight r.handled r.went) r.tally) r
         ≡ record {
-          state = state_with node live out local remote mark turns nodes destination links flight t;
+          state = shown p a flight t;
           answer = answer;
           handled = handled.Nothing;
           went = went.Nowhere;
@@ -67,6 +70,3 @@ module _ {r : Step} {t : Tally} {answer : ℕ} {h : Handled} {w : Went} (q : r �
 
   pub answer_is : r.answer ≡ answer
   answer_is = ap (λ (s : Step). s.answer) q
-
-  pub still : (out local mark : List Bool) (turns : List ℕ) → Still t r.tally out local mark turns out local mark turns
-  still out local mark turns = record { same_tally = tally_is; same_out = refl; same_local = refl; same_mark = refl; same_turns = refl }

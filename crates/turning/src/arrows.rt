@@ -1,5 +1,5 @@
 // A turn of a node, in the arrays of its ends.
-ghost use Rattle.std.specs.Prelude.{◌≡◌, false, not, cond, ◌+◌, ◌/◌, ◌≤◌, ◌<◌, get_or, set};
+ghost use Rattle.std.specs.Prelude.{◌≡◌, false, not, cond, ◌+◌, ◌/◌, ◌≤◌, ◌<◌, length, get_or, set};
 ghost use Rattle.model.specs.Limits.{links_most, ends_most, nodes_most, events_most};
 ghost use Rattle.model.specs.Departure.{has_mark};
 ghost use Rattle.arrays.specs.View.{ends_seen};
@@ -68,6 +68,7 @@ pub fn turn(plan: &Plan, arrows: &mut Arrows, v: usize)
     requires turns { get_or arrows.old.turns v 0 ≤ events_most }
     ensures ends { Turned plan.now v arrows.old arrows.new }
     ensures turns { arrows.new.turns ≡ set arrows.old.turns v (get_or arrows.old.turns v 0 + 1) }
+    ensures long { length arrows.new.turns ≡ nodes_most }
 {
     let w = v as u16;
     let full = !marked(plan, arrows, w);

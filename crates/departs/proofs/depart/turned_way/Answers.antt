@@ -1,27 +1,28 @@
 -- The turn, then the way out. Assumes nothing.
-use Prim.Native.Nat.{◌≤◌}
 use native.Mathlib.Omega.{arith}
-use lib.ListN.{length}
+use mathlib.Core.Path.{sym, ◌∙◌}
+use borrow.Author.Rules.{rules}
 use Rattle.model.specs.Departure.{has_out, door}
-use Rattle.departs.proofs.Ways.{turn_is, turned_below, turned_out, turns_kept, leaves_by_lem}
+use Rattle.arrays.specs.View.{ends_seen}
+use Rattle.model.proofs.Departure.{door_out}
+use Rattle.departs.proofs.Ways.{turn_is, turned_out, has_way, leaves_by_lem, chained_at}
 use Rattle.departs.proofs.depart.turned_way.Goals as goal
 
-pub turn-requires : goal.turn-requires
-turn-requires c = (c.requires.0, omega arith, c.requires.3, c.requires.5.long)
-
 pub way-requires : goal.way-requires
-way-requires c = (c.requires.0, omega arith, λ e. c.requires.6 e c.args.v (omega arith))
+way-requires c = record { fits = c.requires.links_fit; node = omega arith; chain = chained_at c.args.threads c.args.plan.now c.requires.chained c.args.v (omega arith) }
+
+pub unwrap-requires : goal.unwrap-requires
+unwrap-requires c =
+    let a = c.args in
+    let o = turned_out a.plan.now a.arrows.now c.turn.new.arrows a.v c.turn.ensures.ends c.requires.finds in
+    rw (c.way.ensures, o) (search rules)
 
 pub returns : goal.returns
 unfolding has_out door
 returns c =
     let a = c.args in
-    let long : a.nodes ≤ length a.turns.now = omega (arith, c.requires.1, c.requires.5.turns_long) in
-    let out = turned_out a.node.now a.live.now a.out.now a.local.now a.mark.now a.links a.v c.turn.ensures.0 c.requires.4 in (
-      λ remote destination flight t n.
-          leaves_by_lem a.v _ n
-          (turn_is a.node.now a.live.now a.out.now a.local.now remote a.mark.now a.turns.now a.nodes destination a.links flight t a.v c.turn.ensures.0 c.turn.ensures.1 c.requires.2 long)
-          out c.way.ensures,
-      turned_below a.node.now a.live.now a.out.now a.local.now a.mark.now a.links a.v c.turn.ensures.0 c.requires.4 c.way.ensures,
-      record { long = c.turn.ensures.0.long; turns_long = turns_kept a.turns.now _ a.v _ _ c.turn.ensures.1 c.requires.5.turns_long },
-    )
+    let w = has_way (ends_seen a.plan.now c.turn.new.arrows) a.v _ (sym c.unwrap.ensures ∙ c.way.ensures) in
+    record {
+      leaves = λ flight t n. leaves_by_lem a.v _ n (turn_is a.plan.now a.arrows.now c.turn.new.arrows flight t a.v c.turn.ensures.ends c.turn.ensures.turns c.requires.node (omega arith)) w.1;
+      within = omega (arith, w.1, (door_out (ends_seen a.plan.now c.turn.new.arrows) a.v w.0).0);
+    }
