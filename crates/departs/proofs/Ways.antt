@@ -13,7 +13,7 @@ use borrow.Author.Tests.{eqb-true, eqb-false, ne_eqb}
 use Rattle.model.specs.State.{State, Packet, lanes, live}
 use Rattle.model.specs.Departure.{has_live, has_out, has_mark, door, turn, update}
 use Rattle.model.specs.Outcome.{leaves, leaves_by, onward}
-use Rattle.model.proofs.Departure.{update_out}
+use Rattle.model.proofs.Departure.{door_out, update_out}
 use Rattle.model.proofs.Below.{look}
 use Rattle.arrays.specs.declared.record.Plan.{Plan}
 use Rattle.arrays.specs.declared.record.Arrows.{Arrows}
@@ -35,6 +35,9 @@ module _ (s : State) (v : ℕ) where
     | inl e ↦ let d = rw e at q in (e, cc)
     | inr e ↦ let d = rw e at q in cc
   ]
+
+  pub way_within : (x : ℕ) → Some x ≡ way_out_of s v → x < lanes s
+  way_within x q = let w = has_way x q in omega (arith, w.1, (door_out s v w.0).0)
 
   pub no_way : None ≡ way_out_of s v → has_out s v ≡ false
   no_way q = elim (look (has_out s v)) [

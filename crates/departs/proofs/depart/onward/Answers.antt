@@ -7,7 +7,7 @@ use Rattle.model.specs.Departure.{has_out, door}
 use Rattle.model.proofs.Departure.{door_out}
 use Rattle.arrays.specs.View.{ends_seen, shown}
 use Rattle.arrays.proofs.Below.{used_in}
-use Rattle.departs.proofs.Ways.{has_way, no_way, onward_by, onward_turned, turn_finds, chained_at}
+use Rattle.departs.proofs.Ways.{way_within, no_way, onward_by, onward_turned, turn_finds, chained_at}
 use Rattle.departs.proofs.depart.onward.Goals as goal
 
 pub way-requires : goal.way-requires
@@ -45,8 +45,7 @@ unfolding has_out door
 returns-in-Some c =
     let a = c.args in
     let s = ends_seen a.plan.now a.arrows.now in
-    let w = has_way s a.v c.in-Some.x (sym c.in-Some.is ∙ c.way.ensures) in
     record {
       leaves = λ flight t n. onward_by (shown a.plan.now a.arrows.now flight t) a.v _ n (sym c.in-Some.is ∙ c.way.ensures);
-      within = omega (arith, w.1, (door_out s a.v w.0).0);
+      within = way_within s a.v c.in-Some.x (sym c.in-Some.is ∙ c.way.ensures);
     }

@@ -5,7 +5,7 @@ use borrow.Author.Rules.{rules}
 use Rattle.model.specs.Departure.{has_out, door}
 use Rattle.arrays.specs.View.{ends_seen}
 use Rattle.model.proofs.Departure.{door_out}
-use Rattle.departs.proofs.Ways.{turn_is, turned_out, has_way, leaves_by_lem, chained_at}
+use Rattle.departs.proofs.Ways.{turn_is, turned_out, has_way, way_within, leaves_by_lem, chained_at}
 use Rattle.departs.proofs.depart.turned_way.Goals as goal
 
 pub way-requires : goal.way-requires
@@ -24,5 +24,5 @@ returns c =
     let w = has_way (ends_seen a.plan.now c.turn.new.arrows) a.v _ (sym c.unwrap.ensures ∙ c.way.ensures) in
     record {
       leaves = λ flight t n. leaves_by_lem a.v _ n (turn_is a.plan.now a.arrows.now c.turn.new.arrows flight t a.v c.turn.ensures.ends c.turn.ensures.turns c.requires.node (omega arith)) w.1;
-      within = omega (arith, w.1, (door_out (ends_seen a.plan.now c.turn.new.arrows) a.v w.0).0);
+      within = way_within (ends_seen a.plan.now c.turn.new.arrows) a.v _ (sym c.unwrap.ensures ∙ c.way.ensures);
     }
