@@ -3,7 +3,7 @@ use Prim.Native.Nat.{ℕ, zero, suc, ◌*◌, ◌≤◌, ◌<◌}
 use native.Mathlib.Omega.{arith}
 use mathlib.Core.Path.{◌≡◌, refl, sym, ap, ◌∙◌}
 use mathlib.Core.Logic.{◌⊎◌, inl, inr}
-use mathlib.Core.Bool.{Bool, true, false, not, cond, xor, ◌&&◌, ◌||◌, and-true, and-false}
+use mathlib.Core.Bool.{Bool, true, false, not, beq, cond, xor, ◌&&◌, and-true, and-false}
 use mathlib.Core.List.{List, [], ◌∷◌}
 use lib.Dec.{eqb}
 use lib.ListN.{length, get_or, set}
@@ -12,23 +12,33 @@ use borrow.Author.Tests.{eqb-true, eqb-false, eq-eqb, ne_eqb}
 use Rattle.model.specs.declared.Went.TheVariants as went
 use Rattle.model.specs.Limits.{links_most, ends_most}
 use Rattle.model.specs.Answers as answers
-use Rattle.model.specs.State.{State, Packet, Net, Counts, opp, lanes, live}
+use Rattle.model.specs.State.{State, Packet, opp, lanes, live}
 use Rattle.model.specs.Departure.{live_at, has_live}
 use Rattle.model.specs.Outcome.{Outcome, refuse, counted, gives, leaves, onward}
 use Rattle.model.specs.Lanes.{taken}
 use Rattle.model.specs.Deliver.{news, arrives}
 use Rattle.model.proofs.Below.{look, any_here}
-use Rattle.arrays.specs.View.{used, ends_of, state_of}
+use Rattle.arrays.specs.declared.record.Plan.{Plan}
+use Rattle.arrays.specs.declared.record.Arrows.{Arrows}
+use Rattle.arrays.specs.declared.record.Tally.{Tally}
+use Rattle.arrays.specs.View.{used, counts_of, shown}
 use Rattle.arrays.proofs.Below.{used_in, used_is, used_out}
-use Rattle.arrivals.specs.Landing.{landed}
+use Rattle.arrivals.specs.Landing.{landed, heard}
 
 -- news is a bit other than the remote one
-pub fresh_is : (p q : Bool) → (p && not q || not p && q) ≡ xor p q
+pub fresh_is : (p q : Bool) → not (beq p q) ≡ xor p q
 unfolding xor
 fresh_is true true = refl
 fresh_is true false = refl
 fresh_is false true = refl
 fresh_is false false = refl
+
+-- a bit joined with a flag turns where the flag is
+pub turned_is : (b t : Bool) → not (beq b t) ≡ cond t (not b) b
+turned_is true true = refl
+turned_is true false = refl
+turned_is false true = refl
+turned_is false false = refl
 
 -- what is done with the packet p of lane x, by what its end was and what it said
 module _ (s : State) (x : ℕ) (p : Packet) where
@@ -91,60 +101,48 @@ set_same [] i d = refl
 set_same (x ∷ xs) zero d = refl
 set_same (x ∷ xs) (suc i) d = ap (λ l. x ∷ l) (set_same xs i d)
 
-flipped : (q : Bool) → (q && false || not q && true) ≡ not q
-flipped true = refl
-flipped false = refl
-
-stays : (q : Bool) → (q && true || not q && false) ≡ q
-stays true = refl
-stays false = refl
-
-module _ (net : Net) (live out local remote mark : List Bool) (turns : List ℕ) (flight : List Packet) (counts : Counts) (y : ℕ)
-    (inside : y < 2 * net.links) (small : net.links ≤ links_most) (outs : length out ≡ ends_most) (remotes : length remote ≡ ends_most) where
+module _ (p : Plan) (a : Arrows) (flight : List Packet) (t : Tally) (y : ℕ)
+    (inside : y < 2 * p.links) (small : p.links ≤ links_most) (outs : length a.out ≡ ends_most) (remotes : length a.remote ≡ ends_most) where
   abbrev K : ℕ
-  K = 2 * net.links
+  K = 2 * p.links
 
-  out_news : used K false (set out y false) ≡ (λ x. cond (eqb x y) false (used K false out x))
-  out_news = used_is K false (set out y false) _ (λ x h. rw (used_in K false out x h) (go x (look (eqb x y)))) (λ x h. rw (used_out K false out x h, ne_eqb x y (λ e. omega arith)))
+  out_news : used K false (set a.out y false) ≡ (λ x. cond (eqb x y) false (used K false a.out x))
+  out_news = used_is K false (set a.out y false) _ (λ x h. rw (used_in K false a.out x h) (go x (look (eqb x y)))) (λ x h. rw (used_out K false a.out x h, ne_eqb x y (λ e. omega arith)))
     where
-      go : (x : ℕ) → (eqb x y ≡ true) ⊎ (eqb x y ≡ false) → get_or (set out y false) x false ≡ cond (eqb x y) false (get_or out x false)
-      go x (inl e) = rw (e, eqb-true x y e) (get_or-set_same out y false false (omega arith))
-      go x (inr e) = rw e (get_or-set_other out y x false false (eqb-false x y e))
+      go : (x : ℕ) → (eqb x y ≡ true) ⊎ (eqb x y ≡ false) → get_or (set a.out y false) x false ≡ cond (eqb x y) false (get_or a.out x false)
+      go x (inl e) = rw (e, eqb-true x y e) (get_or-set_same a.out y false false (omega arith))
+      go x (inr e) = rw e (get_or-set_other a.out y x false false (eqb-false x y e))
 
-  remote_news : used K false (set remote y (not (get_or remote y false))) ≡ (λ x. cond (eqb x y) (not (used K false remote x)) (used K false remote x))
-  remote_news = used_is K false (set remote y (not (get_or remote y false))) _ (λ x h. rw (used_in K false remote x h) (go x (look (eqb x y)))) (λ x h. rw (used_out K false remote x h, ne_eqb x y (λ e. omega arith)))
+  remote_news : used K false (set a.remote y (not (get_or a.remote y false))) ≡ (λ x. cond (eqb x y) (not (used K false a.remote x)) (used K false a.remote x))
+  remote_news =
+      used_is K false (set a.remote y (not (get_or a.remote y false))) _ (λ x h. rw (used_in K false a.remote x h) (go x (look (eqb x y))))
+      (λ x h. rw (used_out K false a.remote x h, ne_eqb x y (λ e. omega arith)))
     where
-      go : (x : ℕ) → (eqb x y ≡ true) ⊎ (eqb x y ≡ false) → get_or (set remote y (not (get_or remote y false))) x false ≡ cond (eqb x y) (not (get_or remote x false)) (get_or remote x false)
-      go x (inl e) = rw (e, eqb-true x y e) (get_or-set_same remote y (not (get_or remote y false)) false (omega arith))
-      go x (inr e) = rw e (get_or-set_other remote y x (not (get_or remote y false)) false (eqb-false x y e))
+      go : (x : ℕ) → (eqb x y ≡ true) ⊎ (eqb x y ≡ false)
+          → get_or (set a.remote y (not (get_or a.remote y false))) x false ≡ cond (eqb x y) (not (get_or a.remote x false)) (get_or a.remote x false)
+      go x (inl e) = rw (e, eqb-true x y e) (get_or-set_same a.remote y (not (get_or a.remote y false)) false (omega arith))
+      go x (inr e) = rw e (get_or-set_other a.remote y x (not (get_or a.remote y false)) false (eqb-false x y e))
 
-  abbrev shown : State
-  shown = state_of net live (ends_of net.links out local remote mark) turns flight counts
-
-  pub heard_is : (f : Bool) {s : State} (out' remote' : List Bool) → out' ≡ set out y (get_or out y false && not f)
-      → remote' ≡ set remote y (get_or remote y false && not f || not (get_or remote y false) && f)
-      → shown ≡ s → state_of net live (ends_of net.links out' local remote' mark) turns flight counts ≡ cond f (news s y) s
+  pub heard_is : (f : Bool) {s : State} → shown p a flight t ≡ s → shown p (heard a y f) flight t ≡ cond f (news s y) s
   unfolding news
-  heard_is true out' remote' eo er e =
+  heard_is true e =
       (λ i.
       record {
-        net = net;
-        up = used net.links false live;
+        net = (shown p a flight t).net;
+        up = used p.links false a.live;
         ends = record {
-          out = (ap (used K false) (eo ∙ ap (set out y) (and-false (get_or out y false))) ∙ out_news) i;
-          local = used K false local;
-          remote = (ap (used K false) (er ∙ ap (set remote y) (flipped (get_or remote y false))) ∙ remote_news) i;
-          mark = used K false mark;
+          out = (ap (used K false) (ap (set a.out y) (and-false (get_or a.out y false))) ∙ out_news) i;
+          local = used K false a.local;
+          remote = remote_news i;
+          mark = used K false a.mark;
         };
-        turns = used net.nodes 0 turns;
+        turns = used p.nodes 0 a.turns;
         flight = flight;
-        counts = counts;
+        counts = counts_of t;
       })
       ∙ ap (λ s. news s y) e
-  heard_is false out' remote' eo er e =
-      (λ i.
-      state_of net live
-      (ends_of net.links ((eo ∙ ap (set out y) (and-true (get_or out y false)) ∙ set_same out y false) i) local
-      ((er ∙ ap (set remote y) (stays (get_or remote y false)) ∙ set_same remote y false) i) mark)
-      turns flight counts)
+  heard_is false e =
+      ap (λ (o : List Bool). shown p (record { live = a.live; out = o; local = a.local; remote = set a.remote y (get_or a.remote y false); mark = a.mark; turns = a.turns }) flight t)
+      (ap (set a.out y) (and-true (get_or a.out y false)) ∙ set_same a.out y false)
+      ∙ ap (λ (r : List Bool). shown p (record { live = a.live; out = a.out; local = a.local; remote = r; mark = a.mark; turns = a.turns }) flight t) (set_same a.remote y false)
       ∙ e

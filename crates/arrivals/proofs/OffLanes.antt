@@ -1,7 +1,7 @@
 -- The oldest packet of a lane: the refusals, what the packets tell of it, and what it is to have taken it. Assumes nothing.
 use Prim.Native.Nat.{ℕ, ◌+◌, ◌*◌, ◌/◌, ◌≤◌, ◌<◌}
 use native.Mathlib.Omega.{arith}
-use mathlib.Core.Path.{◌≡◌, refl, ap, ◌∙◌}
+use mathlib.Core.Path.{◌≡◌, refl, sym, ap, ◌∙◌}
 use mathlib.Core.Bool.{Bool, true, false}
 use mathlib.Core.Logic.{inl, inr}
 use mathlib.Core.List.{List, [], ◌∷◌}
@@ -12,21 +12,25 @@ use Rattle.model.specs.declared.Handled.TheVariants as handled
 use Rattle.model.specs.declared.Went.TheVariants as went
 use Rattle.model.specs.Limits.{events_most}
 use Rattle.model.specs.Answers as answers
-use Rattle.model.specs.State.{State, Packet, Net, Ends, Counts, lanes, live, whole}
+use Rattle.model.specs.State.{State, Packet, lanes, live, whole}
 use Rattle.model.specs.Formed.{well_formed}
 use Rattle.model.specs.Outcome.{Outcome, refuse, accepting, gives}
 use Rattle.model.specs.Lanes.{on_lane, less, taken, off_lane}
-use Rattle.model.proofs.Below.{look, clash}
+use Rattle.model.proofs.Below.{look}
 use Rattle.model.proofs.Ends.{live_whole}
 use Rattle.model.proofs.Lanes.{less_length}
-use Rattle.arrays.specs.declared.Tally.{Tally}
+use Rattle.std.specs.Prelude.{Option, None, Some, Ok, Err}
+use Rattle.arrays.specs.declared.record.Plan.{Plan}
+use Rattle.arrays.specs.declared.record.Arrows.{Arrows}
+use Rattle.arrays.specs.declared.record.Tally.{Tally}
+use Rattle.arrays.specs.declared.Oldest.{Oldest}
 use Rattle.arrays.specs.declared.Told.{Told}
-use Rattle.arrays.specs.View.{used, net_of, state_of}
+use Rattle.arrays.specs.View.{used, shown}
 use Rattle.arrays.specs.Told.{oldest_in, without, passed}
 use Rattle.arrays.proofs.Below.{used_in}
 use Rattle.departs.specs.declared.tally.Step.{Step}
-use Rattle.arrivals.specs.Lanes.{refused}
-use Rattle.departs.specs.Steps.{state_with, outcome_of}
+use Rattle.arrivals.specs.Lanes.{or_empty, first_on}
+use Rattle.departs.specs.Steps.{outcome_of}
 
 module _ (s : State) (x : ℕ) (f : Packet → Outcome) (formed : well_formed s ≡ true) (room : s.counts.events < events_most) where
   off_no_such : lanes s ≤ x → refuse s answers.no_such ≡ off_lane s x f
@@ -49,113 +53,112 @@ module _ (s : State) (x : ℕ) (f : Packet → Outcome) (formed : well_formed s 
 
 -- ---- what the packets of a lane tell
 -- told of none, there is none
-pub told_none : (ps : List Packet) {t : Told} → t ≡ oldest_in ps → t.there ≡ false → ps ≡ []
+pub told_none : (ps : List Packet) {t : Told} → t ≡ oldest_in ps → t.oldest ≡ None → ps ≡ []
 told_none [] e h = refl
-told_none (p ∷ ps) e h = absurd (clash (ap (λ (t : Told). t.there) e) h)
+told_none (p ∷ ps) e h = let z = ap (λ (t : Told). t.oldest) e in cc
 
 -- what is told is true of the oldest
-pub record Oldest (ps : List Packet) (t : Told) : Type 0 where
+pub record First (ps : List Packet) (o : Oldest) : Type 0 where
   pub packet : Packet
   pub rest : List Packet
   pub first : ps ≡ packet ∷ rest
-  pub number : t.number ≡ packet.number
-  pub bit : t.bit ≡ packet.bit
+  pub number : o.number ≡ packet.number
+  pub bit : o.bit ≡ packet.bit
 
-pub told_oldest : (ps : List Packet) {t : Told} → t ≡ oldest_in ps → t.there ≡ true → Oldest ps t
-told_oldest [] e h = absurd (clash h (ap (λ (t : Told). t.there) e))
-told_oldest (p ∷ ps) e h =
-    record { packet = p; rest = ps; first = refl; number = ap (λ (t : Told). t.number) e; bit = ap (λ (t : Told). t.bit) e }
+pub told_first : (ps : List Packet) {t : Told} {o : Oldest} → t ≡ oldest_in ps → t.oldest ≡ Some o → First ps o
+told_first [] e h = let z = ap (λ (t : Told). t.oldest) e in cc
+told_first (p ∷ ps) {t} {o} e h =
+    let z : Some o ≡ Some (record { number = p.number; bit = p.bit }) = sym h ∙ ap (λ (t : Told). t.oldest) e in
+    let q : o ≡ record { number = p.number; bit = p.bit } = cc in
+    record { packet = p; rest = ps; first = refl; number = ap (λ (o : Oldest). o.number) q; bit = ap (λ (o : Oldest). o.bit) q }
+
+or_empty_ok : (m : Option Oldest) {o : Oldest} → or_empty m ≡ Ok o → m ≡ Some o
+or_empty_ok (Some m) e = cc
+or_empty_ok None e = cc
+
+or_empty_err : (m : Option Oldest) {answer : ℕ} → or_empty m ≡ Err answer → (m ≡ None) × (answers.lane_empty ≡ answer)
+or_empty_err (Some m) e = cc
+or_empty_err None e = (refl, cc)
 
 -- ---- the refusals
-module _ (live : List Bool) (links x : ℕ) (there : Bool) where
-  -- the lane is there, its link is live, and it has a packet
-  pub record There : Type 0 where
-    pub inside : x < 2 * links
-    pub up : get_or live (x / 2) false ≡ true
-    pub one : there ≡ true
-
-  pub refused_none : 2 * links ≤ x → refused live links x there ≡ answers.no_such
-  unfolding refused
-  refused_none h = rw (le-leb (2 * links) x h)
-
-  module _ (inside : x < 2 * links) where
-    pub refused_down : get_or live (x / 2) false ≡ false → refused live links x there ≡ answers.link_down
-    unfolding refused
-    refused_down e = rw (lt-leb (2 * links) x inside, e)
-
-    module _ (up : get_or live (x / 2) false ≡ true) where
-      pub refused_empty : there ≡ false → refused live links x there ≡ answers.lane_empty
-      unfolding refused
-      refused_empty e = rw (lt-leb (2 * links) x inside, up, e)
-
-      pub refused_not : there ≡ true → refused live links x there ≡ answers.done
-      unfolding refused
-      refused_not e = rw (lt-leb (2 * links) x inside, up, e)
+module _ (p : Plan) (a : Arrows) (x : ℕ) (told : Told) where
+  -- the lane is there, its link is live, and it has this packet
+  pub record There (o : Oldest) : Type 0 where
+    pub inside : x < 2 * p.links
+    pub up : get_or a.live (x / 2) false ≡ true
+    pub one : told.oldest ≡ Some o
 
   -- so it is where nothing is refused
-  pub is_there : {answer : ℕ} → answer ≡ refused live links x there → answer ≡ answers.done → There
-  is_there e z = elim (look (leb (2 * links) x)) [
-    | inl h ↦ absurd (omega (arith, z, e ∙ refused_none (leb-true (2 * links) x h)))
-    | inr h ↦ let inside = leb-false (2 * links) x h in elim (look (get_or live (x / 2) false)) [
-      | inl u ↦ elim (look there) [
-        | inl o ↦ record { inside = inside; up = u; one = o }
-        | inr o ↦ absurd (omega (arith, z, e ∙ refused_empty inside u o))
-      ]
-      | inr d ↦ absurd (omega (arith, z, e ∙ refused_down inside d))
+  pub is_there : {o : Oldest} → first_on p a x told ≡ Ok o → There o
+  unfolding first_on
+  is_there {o} e = elim (look (leb (2 * p.links) x)) [
+    | inl h ↦ let z = rw h at e in cc
+    | inr h ↦ elim (look (get_or a.live (x / 2) false)) [
+      | inl u ↦ record { inside = leb-false (2 * p.links) x h; up = u; one = or_empty_ok told.oldest (rw (h, u) at e) }
+      | inr d ↦ let z = rw (h, d) at e in cc
     ]
   ]
 
-module _ (live : List Bool) (links x : ℕ) (told : Told) (node : List ℕ) (ends : Ends) (turns : List ℕ) (nodes destination : ℕ) (flight : List Packet) (counts : Counts) where
-  abbrev shown : State
-  shown = state_of (net_of nodes destination links node) live ends turns flight counts
+module _ (p : Plan) (a : Arrows) (x : ℕ) (told : Told) (flight : List Packet) (t : Tally) where
+  abbrev S : State
+  S = shown p a flight t
 
-  module _ (t : told ≡ oldest_in (on_lane x flight)) (formed : well_formed shown ≡ true) (room : counts.events < events_most) (f : Packet → Outcome) where
-    is_live : (b : Bool) → x < 2 * links → get_or live (x / 2) false ≡ b → used links false live (x / 2) ≡ b
-    is_live b h u = used_in links false live (x / 2) (omega arith) ∙ u
+  module _ (tells : told ≡ oldest_in (on_lane x flight)) (formed : well_formed S ≡ true) (room : t.events < events_most) (f : Packet → Outcome) where
+    is_live : (b : Bool) → x < 2 * p.links → get_or a.live (x / 2) false ≡ b → used p.links false a.live (x / 2) ≡ b
+    is_live b h u = used_in p.links false a.live (x / 2) (omega arith) ∙ u
 
     -- refused for the reason that the search gave
-    pub off_refused : {answer : ℕ} → answer ≡ refused live links x told.there → (answer ≡ answers.done → ⊥) → refuse shown answer ≡ off_lane shown x f
-    off_refused e z = elim (look (leb (2 * links) x)) [
+    pub off_refused : {answer : ℕ} → first_on p a x told ≡ Err answer → refuse S answer ≡ off_lane S x f
+    unfolding first_on
+    off_refused {answer} e = elim (look (leb (2 * p.links) x)) [
       | inl h ↦
-          let none = leb-true (2 * links) x h in
-          ap (refuse shown) (e ∙ refused_none live links x told.there none) ∙ off_no_such shown x f formed room none
-      | inr h ↦ let inside = leb-false (2 * links) x h in elim (look (get_or live (x / 2) false)) [
-        | inl u ↦ elim (look told.there) [
-          | inl o ↦ absurd (z (e ∙ refused_not live links x told.there inside u o))
-          | inr o ↦
-              ap (refuse shown) (e ∙ refused_empty live links x told.there inside u o)
-              ∙ off_empty shown x f formed room inside (is_live true inside u) (told_none (on_lane x flight) t o)
-        ]
+          let z = rw h at e in
+          let q : answer ≡ answers.no_such = cc in
+          ap (refuse S) q ∙ off_no_such S x f formed room (leb-true (2 * p.links) x h)
+      | inr h ↦ let inside = leb-false (2 * p.links) x h in elim (look (get_or a.live (x / 2) false)) [
+        | inl u ↦
+            let z = or_empty_err told.oldest (rw (h, u) at e) in
+            ap (refuse S) (sym z.1) ∙ off_empty S x f formed room inside (is_live true inside u) (told_none (on_lane x flight) tells z.0)
         | inr d ↦
-            ap (refuse shown) (e ∙ refused_down live links x told.there inside d)
-            ∙ off_down shown x f formed room inside (is_live false inside d)
+            let z = rw (h, d) at e in
+            let q : answer ≡ answers.link_down = cc in
+            ap (refuse S) q ∙ off_down S x f formed room inside (is_live false inside d)
       ]
     ]
 
     -- not refused, the oldest packet goes on
-    pub off_found : There live links x told.there → {p : Packet} {ps : List Packet} → on_lane x flight ≡ p ∷ ps → f p ≡ off_lane shown x f
-    off_found h e = off_oldest shown x f formed room h.inside (is_live true h.inside h.up) e
+    pub off_found : {o : Oldest} → There p a x told o → {q : Packet} {qs : List Packet} → on_lane x flight ≡ q ∷ qs → f q ≡ off_lane S x f
+    off_found h e = off_oldest S x f formed room h.inside (is_live true h.inside h.up) e
+
+-- no refusal by the lane is 0
+pub refused_not_done : (p : Plan) (a : Arrows) (x : ℕ) (told : Told) {answer : ℕ} → first_on p a x told ≡ Err answer → answer ≡ answers.done → ⊥
+unfolding first_on
+refused_not_done p a x told {answer} e z = elim (look (leb (2 * p.links) x)) [
+  | inl h ↦ let y = rw h at e in let q : answer ≡ answers.no_such = cc in omega (arith, z, q)
+  | inr h ↦ elim (look (get_or a.live (x / 2) false)) [
+    | inl u ↦ omega (arith, z, (or_empty_err told.oldest (rw (h, u) at e)).1)
+    | inr d ↦ let y = rw (h, d) at e in let q : answer ≡ answers.link_down = cc in omega (arith, z, q)
+  ]
+]
 
 -- a state whose flight has lost the oldest packet of the lane
-pub took_is : (net : Net) (live : List Bool) (ends : Ends) (turns : List ℕ) (flight : List Packet) (counts : Counts) (x : ℕ)
-    → state_of net live ends turns (less x flight) counts ≡ taken (state_of net live ends turns flight counts) x
+pub took_is : (p : Plan) (a : Arrows) (flight : List Packet) (t : Tally) (x : ℕ) → shown p a (less x flight) t ≡ taken (shown p a flight t) x
 unfolding taken
-took_is net live ends turns flight counts x = refl
+took_is p a flight t x = refl
 
 -- ---- what an answer takes from the packets
 module _ (x : ℕ) (flight : List Packet) {answer : ℕ} where
   without_oldest : answer ≡ answers.done → without answer x flight ≡ less x flight
   without_oldest h = rw h
 
-module _ (node : List ℕ) (live out local remote mark : List Bool) (turns : List ℕ) (nodes destination links : ℕ) (flight : List Packet) (x : ℕ) {r : Step} {t : Tally} where
+module _ (p : Plan) (a : Arrows) (flight : List Packet) (x : ℕ) {r : Step} {t : Tally} where
   pub bare_keeps : {answer : ℕ} → r ≡ record { tally = t; answer = answer; handled = handled.Nothing; went = went.Nowhere } → (answer ≡ answers.done → ⊥)
-      → outcome_of (state_with node live out local remote mark turns nodes destination links (passed local (without r.answer x flight) r.handled r.went) r.tally) r
-      ≡ refuse (state_with node live out local remote mark turns nodes destination links flight t) answer
+      → outcome_of (shown p a (passed a.local (without r.answer x flight) r.handled r.went) r.tally) r ≡ refuse (shown p a flight t) answer
   bare_keeps {answer} q h = rw (q, ne_eqb answer answers.done h)
 
   pub done_takes : {n : ℕ} → r ≡ record { tally = t; answer = 0; handled = handled.Packet n; went = went.Lost }
-      → outcome_of (state_with node live out local remote mark turns nodes destination links (passed local (without r.answer x flight) r.handled r.went) r.tally) r
-      ≡ gives (state_with node live out local remote mark turns nodes destination links (less x flight) t) n went.Lost
+      → outcome_of (shown p a (passed a.local (without r.answer x flight) r.handled r.went) r.tally) r
+      ≡ gives (shown p a (less x flight) t) n went.Lost
   done_takes q = rw q
 
 -- ---- how many they are after it
@@ -172,14 +175,11 @@ module _ (local : List Bool) (flight : List Packet) {r : Step} {t : Tally} where
       rw q h
 
 -- an accepted event has taken the oldest packet
-module _ (local : List Bool) (flight : List Packet) (x : ℕ) (r : Step) (h : r.answer ≡ answers.done) where
-  pub took_gives : (node : List ℕ) (live out remote mark : List Bool) (turns : List ℕ) (nodes destination links : ℕ) {o : Outcome}
-      → outcome_of (state_with node live out local remote mark turns nodes destination links (passed local (less x flight) r.handled r.went) r.tally) r ≡ o
-      → outcome_of (state_with node live out local remote mark turns nodes destination links (passed local (without r.answer x flight) r.handled r.went) r.tally) r ≡ o
-  took_gives node live out remote mark turns nodes destination links e =
-      ap (λ left. outcome_of (state_with node live out local remote mark turns nodes destination links (passed local left r.handled r.went) r.tally) r) (without_oldest x flight h)
-      ∙ e
+module _ (p : Plan) (a : Arrows) (flight : List Packet) (x : ℕ) (r : Step) (h : r.answer ≡ answers.done) where
+  pub took_gives : {o : Outcome} → outcome_of (shown p a (passed a.local (less x flight) r.handled r.went) r.tally) r ≡ o
+      → outcome_of (shown p a (passed a.local (without r.answer x flight) r.handled r.went) r.tally) r ≡ o
+  took_gives e = ap (λ left. outcome_of (shown p a (passed a.local left r.handled r.went) r.tally) r) (without_oldest x flight h) ∙ e
 
-  pub took_long : {k : ℕ} → length (passed local (less x flight) r.handled r.went) ≡ k
-      → length (passed local (without r.answer x flight) r.handled r.went) ≡ k
-  took_long e = ap (λ left. length (passed local left r.handled r.went)) (without_oldest x flight h) ∙ e
+  pub took_long : {k : ℕ} → length (passed a.local (less x flight) r.handled r.went) ≡ k
+      → length (passed a.local (without r.answer x flight) r.handled r.went) ≡ k
+  took_long e = ap (λ left. length (passed a.local left r.handled r.went)) (without_oldest x flight h) ∙ e

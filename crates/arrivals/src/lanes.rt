@@ -1,23 +1,24 @@
-// Why no packet can be taken from a lane.
+// The oldest packet of a lane, or why none can be taken.
 ghost use Rattle.std.specs.Prelude.{◌≡◌, ◌≤◌};
 ghost use Rattle.model.specs.Limits.{links_most};
-ghost use Rattle.arrivals.specs.Lanes.{refused};
+ghost use Rattle.arrivals.specs.Lanes.{first_on};
 
-use departs::{DONE, LANE_EMPTY, LINK_DOWN, NO_SUCH};
+use arrays::{Arrows, Oldest, Plan, Told};
+use departs::{LANE_EMPTY, LINK_DOWN, NO_SUCH};
 
-// The answer where there is no such lane, its link is down, or it is empty; else 0.
-pub(crate) fn refusal(live: &[bool; model::LINKS], links: usize, x: usize, there: bool) -> u32
-    requires { links ≤ links_most }
-    ensures { result ≡ refused live.now links x there }
+// The answer where there is no such lane, its link is down, or it is empty.
+pub(crate) fn first_on(plan: &Plan, arrows: &Arrows, x: usize, told: Told) -> Result<Oldest, u32>
+    requires { plan.now.links ≤ links_most }
+    ensures { result ≡ first_on plan.now arrows.now x told }
 {
-    if 2 * links <= x {
-        return NO_SUCH;
+    if 2 * plan.links <= x {
+        return Err(NO_SUCH);
     }
-    if !live[x / 2] {
-        return LINK_DOWN;
+    if !arrows.live[x / 2] {
+        return Err(LINK_DOWN);
     }
-    if !there {
-        return LANE_EMPTY;
+    match told.oldest {
+        Some(oldest) => Ok(oldest),
+        None => Err(LANE_EMPTY),
     }
-    DONE
 }
