@@ -3,7 +3,7 @@ use Prim.Native.Nat.{ℕ, ◌-◌, ◌≤◌, ◌<◌}
 use native.Mathlib.Omega.{arith}
 use mathlib.Core.Path.{◌≡◌, refl, ap}
 use mathlib.Core.Logic.{inl, inr}
-use mathlib.Core.Bool.{Bool, true}
+use mathlib.Core.Bool.{Bool}
 use mathlib.Core.List.{List, [], ◌∷◌}
 use lib.Dec.{eqb}
 use lib.ListN.{length}
@@ -15,8 +15,10 @@ use Rattle.model.specs.declared.Went.TheVariants as went
 use Rattle.model.specs.State.{Packet}
 use Rattle.model.specs.Lanes.{on_lane}
 use Rattle.model.specs.Fail.{off}
-use Rattle.model.proofs.Below.{look, clash}
+use Rattle.model.proofs.Below.{look}
 use Rattle.model.proofs.Lanes.{less_length}
+use Rattle.std.specs.Prelude.{Some}
+use Rattle.arrays.specs.declared.Oldest.{Oldest}
 use Rattle.arrays.specs.declared.Told.{Told}
 use Rattle.arrays.specs.Told.{oldest_in, tells, without, cleared, passed, flies}
 
@@ -34,8 +36,8 @@ module _ (flight : List Packet) (a : ℕ) {told : Told} where
   told_fail k e = ap (λ (t : Told). t.gone) (rw k at e)
 
 -- ---- they do not tell of more packets than there are
-none_there : (x : ℕ) (flight : List Packet) (on : List Packet) → on_lane x flight ≡ on → (oldest_in on).there ≡ true → 0 < length flight
-none_there x flight [] q e = absurd (clash e refl)
+none_there : (x : ℕ) (flight : List Packet) (on : List Packet) {o : Oldest} → on_lane x flight ≡ on → (oldest_in on).oldest ≡ Some o → 0 < length flight
+none_there x flight [] q e = cc
 none_there x flight (p ∷ ps) q e = omega (arith, less_length x flight q)
 
 none_gone : (on : List Packet) → (oldest_in on).gone ≡ 0
@@ -43,12 +45,12 @@ none_gone [] = refl
 none_gone (p ∷ ps) = refl
 
 module _ (flight : List Packet) (kind a : ℕ) where
-  pub tells_there : (tells flight kind a).there ≡ true → 0 < length flight
+  pub tells_there : (o : Oldest) → (tells flight kind a).oldest ≡ Some o → 0 < length flight
   unfolding tells
-  tells_there e = elim (look (eqb kind 1)) [
-    | inl z ↦ absurd (clash (rw z at e) refl)
+  tells_there o e = elim (look (eqb kind 1)) [
+    | inl z ↦ let y = rw z at e in cc
     | inr z ↦ elim (look (eqb kind 4)) [
-      | inl k ↦ absurd (clash (rw (z, k) at e) refl)
+      | inl k ↦ let y = rw (z, k) at e in cc
       | inr k ↦ none_there a flight (on_lane a flight) refl (rw (z, k) at e)
     ]
   ]
