@@ -77,7 +77,12 @@ impl Tree {
                 .is_some_and(|text| code::declares(&text, name)),
             [first, name] => match self.source(owner, Some(first)) {
                 Some(module) => code::declares(&module, name),
-                None => code::has_method(&root, first, name),
+                None => {
+                    let module = code::handed_on(&root, first);
+                    let module = module.and_then(|module| self.source(owner, Some(module)));
+                    let mut texts = module.iter().chain([&root]);
+                    texts.any(|text| code::has_method(text, first, name))
+                }
             },
             _ => false,
         }

@@ -3,6 +3,7 @@ use Rattle.std.specs.Prelude.{ℕ, ◌+◌, ◌≡◌, Bool, List, length}
 use Rattle.model.specs.Limits.{flight_most}
 use Rattle.model.specs.State.{Packet}
 use Rattle.model.specs.Below.{tab}
+use Rattle.arrays.specs.declared.record.Flight.{Flight}
 use Rattle.arrays.specs.View.{packet_at}
 
 -- entries that one move takes; slots of the arrays
@@ -20,3 +21,6 @@ pub record Slots (number lane : List ℕ) (bit : List Bool) : Type 0 where
 -- the packets in the first k slots
 abbrev pub packets : List ℕ → List ℕ → List Bool → ℕ → List Packet
 packets number lane bit k = tab (packet_at number lane bit) k
+
+abbrev pub flying_in : Flight → ℕ → List Packet
+flying_in f k = packets f.number f.lane f.bit k

@@ -56,9 +56,9 @@ module _ {A : Type 0} (d : A) where
               source_mid i j old k (ltb-false k i a) (leb-false j k b)
               ∙ sym (source_mid i (j + 1) old k (ltb-false k i a) (omega (arith, leb-false j k b)))
 
-  pub moved_more : (i j to : ℕ) (old a : List A) → to ≡ j + 1 → i ≤ j → j < length old → Moved d i j old a
-      → Moved d i to old (set a j (get_or a (j + 1) d))
-  moved_more i j to old a e h l m = rw e (one_more i j old a h l m)
+  pub moved_more : (i j to : ℕ) (old a : List A) (v : A) → v ≡ get_or a (j + 1) d → to ≡ j + 1 → i ≤ j → j < length old → Moved d i j old a
+      → Moved d i to old (set a j v)
+  moved_more i j to old a v r e h l m = rw (e, r) (one_more i j old a h l m)
 
   -- one block more
   pub moved_on : (i j n : ℕ) (old a b : List A) → i ≤ j → Moved d i j old a → Moved d j (j + n) a b → Moved d i (j + n) old b

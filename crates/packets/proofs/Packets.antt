@@ -10,7 +10,6 @@ use lib.Dec.{ltb, eqb, leb-suc-suc}
 use lib.ListN.{length, get_or, set, length-set}
 use lib.Seq.{get_or-set_same, get_or-set_other}
 use borrow.Author.Tests.{lt-ltb, le-ltb, eq-eqb, ne_eqb}
-use Rattle.model.specs.Limits.{flight_most}
 use Rattle.model.specs.Below.{first, tab}
 use Rattle.model.specs.State.{Packet, link_of}
 use Rattle.model.specs.Lanes.{on_lane, less}
@@ -18,7 +17,7 @@ use Rattle.model.specs.Fail.{off}
 use Rattle.model.proofs.Below.{look}
 use Rattle.arrays.proofs.Searches.{first_least}
 use Rattle.arrays.specs.View.{packet_at}
-use Rattle.arrays.specs.Flight.{Slots, packets}
+use Rattle.arrays.specs.Flight.{packets}
 use Rattle.arrays.proofs.Below.{tab_same}
 use Rattle.packets.specs.Moves.{Removed}
 
@@ -112,10 +111,6 @@ module _ (number lane : List ℕ) (bit : List Bool) where
           let ne : i ≡ k → ⊥ = λ e. omega arith in
           rw (get_or-set_other number k i n 0 ne, get_or-set_other lane k i x 0 ne, get_or-set_other bit k i b false ne)
 
-  pub put_in : (k n x : ℕ) (b : Bool) → Slots number lane bit → k < flight_most
-      → packets (set number k n) (set lane k x) (set bit k b) (k + 1) ≡ packets number lane bit k ++ (record { number = n; lane = x; bit = b } ∷ [])
-  put_in k n x b s h = put_at k n x b (omega (arith, s.number_long)) (omega (arith, s.lane_long)) (omega (arith, s.bit_long))
-
   -- the oldest packet of a lane taken out
   pub taken_out : (number' lane' : List ℕ) (bit' : List Bool) (x i last : ℕ) → i ≡ first (λ j. eqb (get_or lane j 0) x) 0 (suc last) → i < suc last
       → Removed 0 i last number number' → Removed 0 i last lane lane' → Removed false i last bit bit'
@@ -142,11 +137,13 @@ module _ (number lane : List ℕ) (bit : List Bool) (l : ℕ) where
     pub number_ahead : (m : ℕ) → w ≤ m → get_or numbers m 0 ≡ get_or number m 0
     pub lane_ahead : (m : ℕ) → w ≤ m → get_or lanes m 0 ≡ get_or lane m 0
     pub bit_ahead : (m : ℕ) → w ≤ m → get_or bits m false ≡ get_or bit m false
-    pub room : Slots numbers lanes bits
+    pub number_long : length numbers ≡ length number
+    pub lane_long : length lanes ≡ length lane
+    pub bit_long : length bits ≡ length bit
 
-  pub kept_none : Slots number lane bit → Kept 0 0 number lane bit
+  pub kept_none : Kept 0 0 number lane bit
   unfolding tab off
-  kept_none s = record { kept = refl; number_ahead = λ m h. refl; lane_ahead = λ m h. refl; bit_ahead = λ m h. refl; room = s }
+  kept_none = record { kept = refl; number_ahead = λ m h. refl; lane_ahead = λ m h. refl; bit_ahead = λ m h. refl; number_long = refl; lane_long = refl; bit_long = refl }
 
   module _ (i w : ℕ) (numbers lanes : List ℕ) (bits : List Bool) (k : Kept i w numbers lanes bits) (h : w ≤ i) where
     here : packet_at numbers lanes bits i ≡ packet_at number lane bit i
@@ -166,23 +163,23 @@ module _ (number lane : List ℕ) (bit : List Bool) (l : ℕ) where
           number_ahead = k.number_ahead;
           lane_ahead = k.lane_ahead;
           bit_ahead = k.bit_ahead;
-          room = k.room;
+          number_long = k.number_long;
+          lane_long = k.lane_long;
+          bit_long = k.bit_long;
         }
 
-    pub kept_stays : (link_of (get_or lanes i 0) ≡ l → ⊥) → i < flight_most
+    pub kept_stays : (link_of (get_or lanes i 0) ≡ l → ⊥) → w < length numbers → w < length lanes → w < length bits
         → Kept (i + 1) (w + 1) (set numbers w (get_or numbers i 0)) (set lanes w (get_or lanes i 0)) (set bits w (get_or bits i false))
-    kept_stays e b =
+    kept_stays e hn hl hb =
         record {
           kept =
-              put_in numbers lanes bits w (get_or numbers i 0) (get_or lanes i 0) (get_or bits i false) k.room (omega arith)
+              put_at numbers lanes bits w (get_or numbers i 0) (get_or lanes i 0) (get_or bits i false) hn hl hb
               ∙ ap₂ (λ ps p. ps ++ (p ∷ [])) k.kept here
               ∙ sym (next ∙ rw (ne_eqb (link_of (get_or lane i 0)) l (λ q. e (lane_here ∙ q))));
           number_ahead = λ m q. get_or-set_other numbers w m (get_or numbers i 0) 0 (λ z. omega arith) ∙ k.number_ahead m (omega arith);
           lane_ahead = λ m q. get_or-set_other lanes w m (get_or lanes i 0) 0 (λ z. omega arith) ∙ k.lane_ahead m (omega arith);
           bit_ahead = λ m q. get_or-set_other bits w m (get_or bits i false) false (λ z. omega arith) ∙ k.bit_ahead m (omega arith);
-          room = record {
-            number_long = length-set numbers w (get_or numbers i 0) ∙ k.room.number_long;
-            lane_long = length-set lanes w (get_or lanes i 0) ∙ k.room.lane_long;
-            bit_long = length-set bits w (get_or bits i false) ∙ k.room.bit_long;
-          };
+          number_long = length-set numbers w (get_or numbers i 0) ∙ k.number_long;
+          lane_long = length-set lanes w (get_or lanes i 0) ∙ k.lane_long;
+          bit_long = length-set bits w (get_or bits i false) ∙ k.bit_long;
         }

@@ -5,5 +5,5 @@
 mod list;
 mod search;
 
-pub use list::{keep_off, put, take_out};
+pub use list::{keep_off, on_link, put, take_out};
 pub use search::oldest;

@@ -1,146 +1,81 @@
 // The packets in flight: taking out, keeping and putting in.
-ghost use Rattle.std.specs.Prelude.{◌≡◌, false, [], ◌∷◌, ◌++◌, ◌+◌, ◌≤◌, ◌<◌, length, set};
+ghost use Rattle.std.specs.Prelude.{◌≡◌, false, List, Bool, ℕ, [], ◌∷◌, ◌++◌, ◌+◌, ◌≤◌, ◌<◌, length, set};
 ghost use Rattle.model.specs.Limits.{ends_most, flight_most};
 ghost use Rattle.model.specs.Fail.{off};
-ghost use Rattle.arrays.specs.Flight.{moves, slots, Slots, packets};
-ghost use Rattle.packets.specs.Moves.{Moved, Removed, Stay};
+ghost use Rattle.arrays.specs.Flight.{moves, packets, flying_in};
+ghost use Rattle.packets.specs.Moves.{Moved, Removed, Stays};
 
-use arrays::{MOVES, SLOTS, wide};
+use arrays::{Flight, MOVES, SLOTS};
 
-// One block of numbers moves down by one place.
-fn move_numbers(a: &mut [u32; SLOTS], from: usize)
-    requires { (from < flight_most) × (length a.old ≡ slots) }
-    ensures { Moved 0 from (from + moves) a.old a.new }
+// One block of entries moves down by one place.
+fn move_down<T: Copy>(a: &mut [T; SLOTS], from: usize)
+    requires { from < flight_most }
+    ensures { (d : T) → Moved d from (from + moves) a.old a.new }
 {
-    let mut k: usize = 0;
-    while k < MOVES {
-        let next = a[from + k + 1];
-        a[from + k] = next;
-        k += 1;
+    for k in 0..MOVES {
+        a[from + k] = a[from + k + 1];
     }
 }
 
-// The number at place i goes.
-fn remove_number(a: &mut [u32; SLOTS], i: usize, last: usize)
-    requires { (i ≤ last) × (last < flight_most) × (length a.old ≡ slots) }
-    ensures { Removed 0 i last a.old a.new }
+// The entry at place i goes.
+fn remove<T: Copy>(a: &mut [T; SLOTS], i: usize, last: usize)
+    requires { (i ≤ last) × (last < flight_most) }
+    ensures { (d : T) → Removed d i last a.old a.new }
 {
-    let mut j = i;
-    while j < last {
-        move_numbers(a, j);
-        j += MOVES;
-    }
-}
-
-// One block of lanes moves down by one place.
-fn move_lanes(a: &mut [u16; SLOTS], from: usize)
-    requires { (from < flight_most) × (length a.old ≡ slots) }
-    ensures { Moved 0 from (from + moves) a.old a.new }
-{
-    let mut k: usize = 0;
-    while k < MOVES {
-        let next = a[from + k + 1];
-        a[from + k] = next;
-        k += 1;
-    }
-}
-
-// The lane at place i goes.
-fn remove_lane(a: &mut [u16; SLOTS], i: usize, last: usize)
-    requires { (i ≤ last) × (last < flight_most) × (length a.old ≡ slots) }
-    ensures { Removed 0 i last a.old a.new }
-{
-    let mut j = i;
-    while j < last {
-        move_lanes(a, j);
-        j += MOVES;
-    }
-}
-
-// One block of bits moves down by one place.
-fn move_bits(a: &mut [bool; SLOTS], from: usize)
-    requires { (from < flight_most) × (length a.old ≡ slots) }
-    ensures { Moved false from (from + moves) a.old a.new }
-{
-    let mut k: usize = 0;
-    while k < MOVES {
-        let next = a[from + k + 1];
-        a[from + k] = next;
-        k += 1;
-    }
-}
-
-// The bit at place i goes.
-fn remove_bit(a: &mut [bool; SLOTS], i: usize, last: usize)
-    requires { (i ≤ last) × (last < flight_most) × (length a.old ≡ slots) }
-    ensures { Removed false i last a.old a.new }
-{
-    let mut j = i;
-    while j < last {
-        move_bits(a, j);
-        j += MOVES;
+    for j in (i..last).step_by(MOVES) {
+        move_down(a, j);
     }
 }
 
 // The packet at place i goes; the order of the others stays.
-pub fn take_out(
-    number: &mut [u32; SLOTS],
-    lane: &mut [u16; SLOTS],
-    bit: &mut [bool; SLOTS],
-    i: usize,
-    last: usize,
-)
-    requires { (i ≤ last) × (last < flight_most) × Slots number.old lane.old bit.old }
-    ensures { Removed 0 i last number.old number.new × Removed 0 i last lane.old lane.new × Removed false i last bit.old bit.new }
+pub fn take_out(flight: &mut Flight, i: usize, last: usize)
+    requires { (i ≤ last) × (last < flight_most) }
+    ensures { Removed 0 i last flight.old.number flight.new.number × Removed 0 i last flight.old.lane flight.new.lane × Removed false i last flight.old.bit flight.new.bit }
 {
-    remove_number(number, i, last);
-    remove_lane(lane, i, last);
-    remove_bit(bit, i, last);
+    remove(&mut flight.number, i, last);
+    remove(&mut flight.lane, i, last);
+    remove(&mut flight.bit, i, last);
 }
 
 // A packet becomes the newest in flight.
-pub fn put(
-    number: &mut [u32; SLOTS],
-    lane: &mut [u16; SLOTS],
-    bit: &mut [bool; SLOTS],
-    flying: usize,
-    n: u32,
-    x: usize,
-    b: bool,
-)
-    requires { (flying < flight_most) × (x < ends_most) × Slots number.old lane.old bit.old }
-    ensures { (packets number.new lane.new bit.new (flying + 1) ≡ packets number.old lane.old bit.old flying ++ (record { number = n; lane = x; bit = b } ∷ [])) × Slots number.new lane.new bit.new × (number.new ≡ set number.old flying n) × (lane.new ≡ set lane.old flying x) × (bit.new ≡ set bit.old flying b) }
+pub fn put(flight: &mut Flight, flying: usize, n: u32, x: usize, b: bool)
+    requires { (flying < flight_most) × (x < ends_most) }
+    ensures { (flying_in flight.new (flying + 1) ≡ flying_in flight.old flying ++ (record { number = n; lane = x; bit = b } ∷ [])) × (flight.new ≡ record { number = set flight.old.number flying n; lane = set flight.old.lane flying x; bit = set flight.old.bit flying b }) }
 {
-    number[flying] = n;
-    lane[flying] = x as u16;
-    bit[flying] = b;
+    flight.number[flying] = n;
+    flight.lane[flying] = x as u16;
+    flight.bit[flying] = b;
 }
 
 // The packets on no lane of link l stay, in their order, each moved at most once; gives how many.
-pub fn keep_off(
-    number: &mut [u32; SLOTS],
-    lane: &mut [u16; SLOTS],
-    bit: &mut [bool; SLOTS],
-    flying: usize,
-    l: usize,
-) -> usize
-    requires { (flying ≤ flight_most) × Slots number.old lane.old bit.old }
-    ensures { (result ≤ flying) × (packets number.new lane.new bit.new result ≡ off l (packets number.old lane.old bit.old flying)) × Slots number.new lane.new bit.new × Stay result number.old lane.old bit.old number.new lane.new bit.new }
+pub fn keep_off(flight: &mut Flight, flying: usize, l: usize) -> usize
+    requires { flying ≤ flight_most }
+    ensures { (result ≤ flying) × (flying_in flight.new result ≡ off l (flying_in flight.old flying)) × Stays result flight.old flight.new }
 {
     let mut w: usize = 0;
-    let mut i: usize = 0;
-    while i < flying {
-        let j = i;
-        i += 1;
-        let x = lane[j];
-        if wide(x) / 2 != l {
-            let a = number[j];
-            let b = bit[j];
-            number[w] = a;
-            lane[w] = x;
-            bit[w] = b;
+    for j in 0..flying {
+        let x = flight.lane[j];
+        if usize::from(x) / 2 != l {
+            let a = flight.number[j];
+            let b = flight.bit[j];
+            flight.number[w] = a;
+            flight.lane[w] = x;
+            flight.bit[w] = b;
             w += 1;
         }
     }
     w
+}
+
+// How many of the packets are on link l.
+pub fn on_link(lanes: &[u16], l: usize) -> usize
+    ensures { (number : List ℕ) (bit : List Bool) → result + length (off l (packets number lanes.now bit (length lanes.now))) ≡ length lanes.now }
+{
+    let mut gone: usize = 0;
+    for &x in lanes {
+        if usize::from(x) / 2 == l {
+            gone += 1;
+        }
+    }
+    gone
 }

@@ -1,54 +1,33 @@
 // The oldest packet of a lane.
-ghost use Rattle.std.specs.Prelude.{◌≡◌, ◌+◌, ◌-◌, ◌≤◌, ◌<◌, eqb, get_or};
+ghost use Rattle.std.specs.Prelude.{◌≡◌, ◌-◌, ◌≤◌, eqb, get_or};
+ghost use Rattle.model.specs.Below.{first};
 ghost use Rattle.model.specs.Limits.{flight_most};
-ghost use Rattle.model.specs.Below.{any, first};
+ghost use Rattle.packets.specs.Moves.{in_use, oldest_of};
 
-use arrays::{BLOCK, SLOTS};
+use arrays::{BLOCK, Flight, block_has};
 
-// Whether a packet of the block is on the lane.
-fn in_block(lane: &[u16; SLOTS], from: usize, x: u16) -> bool
-    requires { from < flight_most }
-    ensures { result ≡ any (λ j. eqb (get_or lane.now (from + j) 0) x) 16 }
-{
-    let mut some = false;
-    let mut j: usize = 0;
-    while j < BLOCK {
-        some = some | (lane[from + j] == x);
-        j += 1;
-    }
-    some
-}
-
-// The oldest packet of the lane from a place on, or the number in flight.
-fn oldest_from(lane: &[u16; SLOTS], flying: usize, x: u16, from: usize) -> usize
+// The oldest packet of the lane from a place on.
+fn oldest_from(flight: &Flight, flying: usize, x: u16, from: usize) -> Option<usize>
     requires { (flying ≤ flight_most) × (from ≤ flying) }
-    ensures { result ≡ first (λ i. eqb (get_or lane.now i 0) x) from (flying - from) }
+    ensures { result ≡ in_use flying (first (λ i. eqb (get_or flight.now.lane i 0) x) from (flying - from)) }
 {
-    let mut i = from;
-    loop {
-        if flying <= i {
-            break flying;
+    for i in from..flying {
+        if flight.lane[i] == x {
+            return Some(i);
         }
-        if lane[i] == x {
-            break i;
-        }
-        i += 1;
     }
+    None
 }
 
-// The oldest packet of the lane, or the number in flight.
-pub fn oldest(lane: &[u16; SLOTS], flying: usize, x: u16) -> usize
+// The oldest packet of the lane.
+pub fn oldest(flight: &Flight, flying: usize, x: u16) -> Option<usize>
     requires { flying ≤ flight_most }
-    ensures { result ≡ first (λ i. eqb (get_or lane.now i 0) x) 0 flying }
+    ensures { result ≡ oldest_of flight.now.lane flying x }
 {
-    let mut base: usize = 0;
-    loop {
-        if flying <= base {
-            break flying;
+    for base in (0..flying).step_by(BLOCK) {
+        if block_has(&flight.lane, base, x) {
+            return oldest_from(flight, flying, x, base);
         }
-        if in_block(lane, base, x) {
-            break oldest_from(lane, flying, x, base);
-        }
-        base += BLOCK;
     }
+    None
 }

@@ -1,31 +1,23 @@
 // The packets of a burst, in queues by lane.
 #![tactic(auto)]
 
-ghost use Rattle.std.specs.Prelude.{◌≡◌, Bool, true, List, ℕ, ◌≤◌, ◌<◌, length};
+ghost use Rattle.std.specs.Prelude.{◌≡◌, ℕ, ◌≤◌, ◌<◌, length};
 ghost use Rattle.model.specs.declared.Went.{Went};
 ghost use Rattle.model.specs.declared.Handled.{Handled};
 ghost use Rattle.model.specs.Limits.{ends_most, flight_most};
 ghost use Rattle.arrays.specs.Told.{left, passed, flies};
-ghost use Rattle.queues.specs.Queue.{room, flown, Roomy, Queued};
+ghost use Rattle.queues.specs.Queue.{room, flown, Queued};
 ghost use Rattle.queued.specs.Asked.{Queueing};
 
-use arrays::{Asked, Told, none, wide};
+use arrays::{Arrows, Asked, Oldest, Told, none};
 use model::{FAIL, Handled, SEND, Went};
-use queues::{ROOM, cut, on_link, push, take};
+use queues::{Queues, ROOM};
 use slots::make_room;
 
 // What the packets tell an event.
-pub fn ask<'a>(
-    number: &'a [u32; ROOM],
-    lane: &'a [u16; ROOM],
-    bit: &'a [bool; ROOM],
-    first: &'a [u16; model::ENDS],
-    used: usize,
-    kind: u32,
-    argument: usize,
-) -> Asked
-    requires { used ≤ room }
-    ensures { (last after : List ℕ) → Queued lane.now first.now last after used → Queueing first.now (flown number.now lane.now bit.now used) kind argument result }
+pub fn ask(queues: &Queues, kind: u32, argument: usize) -> Asked
+    requires { queues.now.used ≤ room }
+    ensures { Queued queues.now → Queueing queues.now kind argument result }
 {
     if kind == SEND {
         return none(0);
@@ -34,22 +26,21 @@ pub fn ask<'a>(
         if model::LINKS <= argument {
             return none(0);
         }
-        return none(on_link(lane, used, argument));
+        return none(queues.on_link(argument));
     }
     if model::ENDS <= argument {
         return none(0);
     }
-    let i = wide(first[argument]);
+    let i = usize::from(queues.first[argument]);
     if ROOM <= i {
         return none(0);
     }
-    let number = number[i];
-    let bit = bit[i];
     Asked {
         told: Told {
-            there: true,
-            number,
-            bit,
+            oldest: Some(Oldest {
+                number: queues.number[i],
+                bit: queues.bit[i],
+            }),
             gone: 0,
         },
         at: i,
@@ -57,104 +48,69 @@ pub fn ask<'a>(
 }
 
 // An accepted event takes its packets out.
-fn drop_out<'a>(
-    lane: &mut [u16; ROOM],
-    first: &mut [u16; model::ENDS],
-    after: &'a [u16; ROOM],
-    used: usize,
-    kind: u32,
-    argument: usize,
-    asked: Asked,
-)
-    requires { (used ≤ room) × (length lane.old ≡ room) × (length first.old ≡ ends_most) × (asked.told.there ≡ true → (argument < ends_most) × (asked.at < room)) }
-    ensures { ((number : List ℕ) (bit : List Bool) (last : List ℕ) → Queued lane.old first.old last after.now used → Queueing first.old (flown number lane.old bit used) kind argument asked → Queued lane.new first.new last after.now used × (flown number lane.new bit used ≡ left kind argument 0 (flown number lane.old bit used))) × (length lane.new ≡ room) }
+fn drop_out(queues: &mut Queues, kind: u32, argument: usize, asked: Asked)
+    requires { Queued queues.old × Queueing queues.old kind argument asked }
+    ensures { Queued queues.new × (flown queues.new ≡ left kind argument 0 (flown queues.old)) × (queues.new.used ≡ queues.old.used) }
 {
     if kind == SEND {
         return;
     }
     if kind == FAIL {
         if argument < model::LINKS {
-            cut(lane, first, used, argument);
+            queues.cut(argument);
         }
         return;
     }
-    if asked.told.there {
-        take(lane, first, after, asked.at, argument);
+    match asked.told.oldest {
+        Some(_) => queues.take(asked.at, argument),
+        None => {}
     }
 }
 
-// A packet that left by an end becomes the newest; gives how many slots are in use.
-fn pass_on(
-    number: &mut [u32; ROOM],
-    lane: &mut [u16; ROOM],
-    bit: &mut [bool; ROOM],
-    first: &mut [u16; model::ENDS],
-    last: &mut [u16; model::ENDS],
-    after: &mut [u16; ROOM],
-    local: &[bool; model::ENDS],
-    used: usize,
-    handled: Handled,
-    went: Went,
-) -> usize
-    requires { (used < room) × ((x : ℕ) → went ≡ Went.Lane x → x < ends_most) × Roomy number.old lane.old bit.old × Queued lane.old first.old last.old after.old used }
-    ensures { (flown number.new lane.new bit.new result ≡ passed local.now (flown number.old lane.old bit.old used) handled went) × Roomy number.new lane.new bit.new × Queued lane.new first.new last.new after.new result }
+// A packet that left by an end becomes the newest.
+fn pass_on(queues: &mut Queues, arrows: &Arrows, handled: Handled, went: Went)
+    requires { (queues.old.used < room) × ((x : ℕ) → went ≡ Went.Lane x → x < ends_most) × Queued queues.old }
+    ensures { (flown queues.new ≡ passed arrows.now.local (flown queues.old) handled went) × Queued queues.new }
 {
     match handled {
         Handled::Packet(n) => match went {
             Went::Lane(x) => {
-                let b = local[x];
-                push(number, lane, bit, first, last, after, used, n, x, b);
-                used + 1
+                let b = arrows.local[x];
+                queues.push(n, x, b);
             }
-            _ => used,
+            _ => {}
         },
-        Handled::Nothing => used,
+        Handled::Nothing => {}
     }
 }
 
-// The packets move as the event's answer says; gives how many slots are in use.
+// The packets move as the event's answer says.
 pub fn carry(
-    number: &mut [u32; ROOM],
-    lane: &mut [u16; ROOM],
-    bit: &mut [bool; ROOM],
-    first: &mut [u16; model::ENDS],
-    last: &mut [u16; model::ENDS],
-    after: &mut [u16; ROOM],
-    local: &[bool; model::ENDS],
-    used: usize,
+    queues: &mut Queues,
+    arrows: &Arrows,
     kind: u32,
     argument: usize,
     asked: Asked,
     answer: u32,
     handled: Handled,
     went: Went,
-) -> usize
-    requires { (used < room) × ((x : ℕ) → went ≡ Went.Lane x → x < ends_most) × Roomy number.old lane.old bit.old × Queued lane.old first.old last.old after.old used × Queueing first.old (flown number.old lane.old bit.old used) kind argument asked }
-    ensures { (flown number.new lane.new bit.new result ≡ flies kind argument local.now (flown number.old lane.old bit.old used) answer handled went) × Roomy number.new lane.new bit.new × Queued lane.new first.new last.new after.new result }
+)
+    requires { (queues.old.used < room) × ((x : ℕ) → went ≡ Went.Lane x → x < ends_most) × Queued queues.old × Queueing queues.old kind argument asked }
+    ensures { (flown queues.new ≡ flies kind argument arrows.now.local (flown queues.old) answer handled went) × Queued queues.new }
 {
     if answer == 0 {
-        drop_out(lane, first, after, used, kind, argument, asked);
+        drop_out(queues, kind, argument, asked);
     }
-    pass_on(
-        number, lane, bit, first, last, after, local, used, handled, went,
-    )
+    pass_on(queues, arrows, handled, went);
 }
 
 // Where all slots are in use, the packets move up: there is room for one more.
-pub fn room_for_one(
-    number: &mut [u32; ROOM],
-    lane: &mut [u16; ROOM],
-    bit: &mut [bool; ROOM],
-    first: &mut [u16; model::ENDS],
-    last: &mut [u16; model::ENDS],
-    after: &mut [u16; ROOM],
-    used: usize,
-) -> usize
-    requires { (length (flown number.old lane.old bit.old used) ≤ flight_most) × Roomy number.old lane.old bit.old × Queued lane.old first.old last.old after.old used }
-    ensures { (result < room) × (flown number.new lane.new bit.new result ≡ flown number.old lane.old bit.old used) × Roomy number.new lane.new bit.new × Queued lane.new first.new last.new after.new result }
+pub fn room_for_one(queues: &mut Queues)
+    requires { (length (flown queues.old) ≤ flight_most) × Queued queues.old }
+    ensures { (queues.new.used < room) × (flown queues.new ≡ flown queues.old) × Queued queues.new }
 {
-    if used < ROOM {
-        return used;
+    if queues.used < ROOM {
+        return;
     }
-    make_room(number, lane, bit, first, last, after, used)
+    make_room(queues);
 }

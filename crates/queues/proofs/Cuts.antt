@@ -13,8 +13,8 @@ use Rattle.model.specs.Limits.{links_most, ends_most}
 use Rattle.model.specs.Fail.{off}
 use Rattle.model.proofs.Below.{look}
 use Rattle.arrays.specs.View.{packet_at}
-use Rattle.queues.specs.Queue.{room, no_lane, flown, Next, Queued, Emptied}
-use Rattle.queues.proofs.Standing.{same, standing_off}
+use Rattle.queues.specs.Queue.{room, no_lane, Next, InOrder, Emptied}
+use Rattle.queues.proofs.Standing.{flown_in, same, standing_off}
 
 -- ---- one slot after another
 module _ (l : ℕ) (old : List ℕ) where
@@ -71,7 +71,7 @@ module _ (lane lanes : List ℕ) (used l : ℕ) (b : l < links_most) (e : Emptie
   kept j n = e.entry j ∙ rw (ne_eqb (get_or lane j 0 / 2) l n, and-false (ltb j used))
 
   -- the packets are those off the link
-  pub flown_off : (number : List ℕ) (bit : List Bool) → flown number lanes bit used ≡ off l (flown number lane bit used)
+  pub flown_off : (number : List ℕ) (bit : List Bool) → flown_in number lanes bit used ≡ off l (flown_in number lane bit used)
   flown_off number bit =
       standing_off l b (packet_at number lane bit) (packet_at number lanes bit) used gone (λ j u n. rw (kept j n))
 
@@ -94,7 +94,7 @@ module _ (lane lanes : List ℕ) (used l : ℕ) (b : l < links_most) (e : Emptie
         here = λ r. let w = n.here r in (w.0, w.1, still f y d w.2);
       }
 
-  module _ (first last after : List ℕ) (q : Queued lane first last after used) where
+  module _ (first last after : List ℕ) (q : InOrder lane first last after used) where
     abbrev one : List ℕ
     one = set first (2 * l) room
 
@@ -141,7 +141,7 @@ module _ (lane lanes : List ℕ) (used l : ℕ) (b : l < links_most) (e : Emptie
     ]
 
     -- and the queues are in order
-    pub queued_cut : Queued lanes firsts last after used
+    pub queued_cut : InOrder lanes firsts last after used
     queued_cut =
         record {
           within = q.within;

@@ -10,15 +10,15 @@ use lib.Seq.{get_or-set_same, get_or-set_other}
 use borrow.Author.Tests.{ltb-true, ltb-false}
 use Rattle.model.specs.Limits.{ends_most}
 use Rattle.model.proofs.Below.{look}
-use Rattle.queues.specs.Queue.{room, no_lane, Next, Queued}
+use Rattle.queues.specs.Queue.{room, no_lane, Next, InOrder}
 use Rattle.queues.proofs.Standing.{same}
 
 -- the last slot of a lane that has one is in use
-pub last_below : {lane first last after : List ℕ} {k : ℕ} → Queued lane first last after k
+pub last_below : {lane first last after : List ℕ} {k : ℕ} → InOrder lane first last after k
     → (x : ℕ) → x < ends_most → (get_or first x 0 ≡ room → ⊥) → get_or last x 0 < k
 last_below q x l n = (q.ends x l (omega (arith, (q.begins x l).most, n))).0
 
-module _ (lane first last after : List ℕ) (k : ℕ) (q : Queued lane first last after k)
+module _ (lane first last after : List ℕ) (k : ℕ) (q : InOrder lane first last after k)
     (x : ℕ) (l : x < ends_most) (b : k < room) (long : length lane ≡ room) where
   abbrev lanes : List ℕ
   lanes = set lane k x
@@ -118,7 +118,7 @@ module _ (lane first last after : List ℕ) (k : ℕ) (q : Queued lane first las
         (next_other (get_or lane j 0) (suc j) (get_or after j 0) (empty_lane j v) (q.goes j v (rw e at m)))
 
     -- the lane was empty: the slot is its first and its last
-    pub queued_first : (f a : List ℕ) → f ≡ firsts → a ≡ afters → Queued lanes f lasts a (k + 1)
+    pub queued_first : (f a : List ℕ) → f ≡ firsts → a ≡ afters → InOrder lanes f lasts a (k + 1)
     queued_first f a f_is a_is =
         rw (f_is, a_is) (record {
           within = omega arith;
@@ -185,7 +185,7 @@ module _ (lane first last after : List ℕ) (k : ℕ) (q : Queued lane first las
         ])
 
     -- it was not: the slot comes after its last
-    pub queued_last : (s : ℕ) (f a : List ℕ) → s ≡ t → f ≡ first → a ≡ set (set after k room) s k → Queued lanes f lasts a (k + 1)
+    pub queued_last : (s : ℕ) (f a : List ℕ) → s ≡ t → f ≡ first → a ≡ set (set after k room) s k → InOrder lanes f lasts a (k + 1)
     queued_last s f a s_is f_is a_is =
         rw (f_is, a_is, s_is) (record {
           within = omega arith;

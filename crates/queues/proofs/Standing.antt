@@ -1,13 +1,12 @@
 -- The packets that still stand: a lane's oldest, one packet more, one less, those off a link. Assumes nothing.
 use Prim.Native.Nat.{ℕ, zero, suc, ◌+◌, ◌<◌}
 use native.Mathlib.Omega.{arith}
-use native.Mathlib.Numerals.{add-one}
 use mathlib.Core.Path.{◌≡◌, refl, ap, ◌∙◌}
 use mathlib.Core.Logic.{◌⊎◌, inl, inr}
 use mathlib.Core.Bool.{Bool, false, cond}
 use mathlib.Core.List.{List, [], ◌∷◌, ◌++◌}
 use lib.Dec.{eqb}
-use lib.ListN.{length, set, length-append}
+use lib.ListN.{length, set}
 use borrow.Author.Tests.{eqb-true, eqb-false, eq-eqb, ne_eqb}
 use Rattle.model.specs.Limits.{links_most, ends_most}
 use Rattle.model.specs.Below.{tab}
@@ -17,12 +16,16 @@ use Rattle.model.specs.Fail.{off}
 use Rattle.model.proofs.Below.{look}
 use Rattle.arrays.specs.Flight.{packets}
 use Rattle.arrays.proofs.Below.{tab_same}
-use Rattle.packets.proofs.Packets.{tab_snoc, put_at, off_snoc}
-use Rattle.queues.specs.Queue.{room, no_lane, standing, flown, Roomy}
+use Rattle.packets.proofs.Packets.{put_at}
+use Rattle.queues.specs.Queue.{no_lane, standing}
 
 -- one number is another, or it is not
 pub same : (a b : ℕ) → (a ≡ b) ⊎ (a ≡ b → ⊥)
 same a b = elim (look (eqb a b)) [ inl e ↦ inl (eqb-true a b e) | inr e ↦ inr (eqb-false a b e) ]
+
+-- the packets in flight, of so many slots used
+abbrev pub flown_in : List ℕ → List ℕ → List Bool → ℕ → List Packet
+flown_in number lane bit used = standing (packets number lane bit used)
 
 abbrev next : (ℕ → Packet) → ℕ → Packet
 next p i = p (suc i)
@@ -119,51 +122,26 @@ module _ (l : ℕ) where
               ])
         ]
 
-  -- how many of the first i packets are on the link
-  abbrev pub Counted : (ℕ → Packet) → ℕ → ℕ → Type 0
-  Counted p gone i = gone + length (off l (standing (tab p i))) ≡ length (standing (tab p i))
-
-  pub counted_none : (p : ℕ → Packet) → Counted p 0 0
-  unfolding tab standing off
-  counted_none p = refl
-
-  module _ (p : ℕ → Packet) (gone i : ℕ) (c : Counted p gone i) where
-    pub counted_on : l < links_most → link_of (p i).lane ≡ l → Counted p (gone + 1) (i + 1)
-    counted_on b e =
-        rw (
-          add-one i,
-          tab_snoc p i,
-          standing_snoc (tab p i) (p i),
-          stands_on b (p i).lane e,
-          off_snoc l (standing (tab p i)) (p i),
-          eq-eqb (link_of (p i).lane) l e,
-          length-append (standing (tab p i)) (p i ∷ []),
-        )
-        (omega (arith, c))
-
-    pub counted_off : (link_of (p i).lane ≡ l → ⊥) → Counted p gone (i + 1)
-    counted_off n = elim (look (eqb (p i).lane no_lane)) [
-      | inl a ↦ rw (add-one i, tab_snoc p i, standing_snoc (tab p i) (p i), a) c
-      | inr a ↦
-          rw (
-            add-one i,
-            tab_snoc p i,
-            standing_snoc (tab p i) (p i),
-            a,
-            off_snoc l (standing (tab p i)) (p i),
-            ne_eqb (link_of (p i).lane) l n,
-            length-append (standing (tab p i)) (p i ∷ []),
-            length-append (off l (standing (tab p i))) (p i ∷ []),
-          )
-          (omega (arith, c))
+    -- empty slots are on no link
+    pub standing_less : (ps : List Packet) → length (off l (standing ps)) + length ps ≡ length (standing ps) + length (off l ps)
+    unfolding standing off
+    standing_less [] = refl
+    standing_less (p ∷ ps) = elim (look (eqb p.lane no_lane)) [
+      | inl a ↦
+          let e : p.lane ≡ no_lane = eqb-true p.lane no_lane a in
+          rw (a, ne_eqb (link_of p.lane) l (λ z. omega (arith, e, z))) (omega (arith, standing_less ps))
+      | inr a ↦ elim (look (eqb (link_of p.lane) l)) [
+        | inl z ↦ rw (a, z) (omega (arith, standing_less ps))
+        | inr z ↦ rw (a, z) (omega (arith, standing_less ps))
+      ]
     ]
 
 -- ---- in the arrays
 module _ (number lane : List ℕ) (bit : List Bool) where
   -- a packet put into slot k
-  pub flown_more : (k n x : ℕ) (b : Bool) → Roomy number lane bit → k < room → x < ends_most
-      → flown (set number k n) (set lane k x) (set bit k b) (k + 1) ≡ flown number lane bit k ++ (record { number = n; lane = x; bit = b } ∷ [])
-  flown_more k n x b s h l =
-      ap standing (put_at number lane bit k n x b (omega (arith, s.number_long)) (omega (arith, s.lane_long)) (omega (arith, s.bit_long)))
+  pub flown_more : (k n x : ℕ) (b : Bool) → k < length number → k < length lane → k < length bit → x < ends_most
+      → flown_in (set number k n) (set lane k x) (set bit k b) (k + 1) ≡ flown_in number lane bit k ++ (record { number = n; lane = x; bit = b } ∷ [])
+  flown_more k n x b hn hl hb l =
+      ap standing (put_at number lane bit k n x b hn hl hb)
       ∙ standing_snoc (packets number lane bit k) (record { number = n; lane = x; bit = b })
       ∙ rw (stands x l x refl)

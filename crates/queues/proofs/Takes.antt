@@ -13,10 +13,10 @@ use Rattle.model.specs.Limits.{ends_most}
 use Rattle.model.specs.Lanes.{less}
 use Rattle.model.proofs.Below.{look}
 use Rattle.arrays.specs.View.{packet_at}
-use Rattle.queues.specs.Queue.{room, no_lane, flown, Next, Queued}
-use Rattle.queues.proofs.Standing.{same, lane_less}
+use Rattle.queues.specs.Queue.{room, no_lane, Next, InOrder}
+use Rattle.queues.proofs.Standing.{flown_in, same, lane_less}
 
-module _ (lane first last after : List ℕ) (used : ℕ) (q : Queued lane first last after used)
+module _ (lane first last after : List ℕ) (used : ℕ) (q : InOrder lane first last after used)
     (i x : ℕ) (l : x < ends_most) (e : get_or first x 0 ≡ i) (b : i < room) (long : length lane ≡ room) where
   abbrev lanes : List ℕ
   lanes = set lane i no_lane
@@ -110,7 +110,7 @@ module _ (lane first last after : List ℕ) (used : ℕ) (q : Queued lane first 
   first_taken y r (inr z) = rw (get_or-set_other first x y (get_or after i 0) 0 z) at r
 
   -- the queues are in order
-  pub queued_taken : Queued lanes firsts last after used
+  pub queued_taken : InOrder lanes firsts last after used
   queued_taken =
       record {
         within = q.within;
@@ -128,7 +128,7 @@ module _ (lane first last after : List ℕ) (used : ℕ) (q : Queued lane first 
       }
 
   -- and the packets are those without the oldest of the lane
-  pub flown_taken : (number : List ℕ) (bit : List Bool) → flown number lanes bit used ≡ less x (flown number lane bit used)
+  pub flown_taken : (number : List ℕ) (bit : List Bool) → flown_in number lanes bit used ≡ less x (flown_in number lane bit used)
   flown_taken number bit =
       lane_less x l (packet_at number lane bit) (packet_at number lanes bit) used i (begin.here b).1
       (λ j m. begin.before j (omega arith) (omega (arith, (begin.here b).1)) m)

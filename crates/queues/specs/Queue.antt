@@ -3,6 +3,7 @@ use Rattle.std.specs.Prelude.{ℕ, suc, ◌*◌, ◌/◌, ◌<◌, ◌≤◌, �
 use Rattle.model.specs.Limits.{ends_most, flight_most}
 use Rattle.model.specs.State.{Packet}
 use Rattle.arrays.specs.Flight.{packets}
+use Rattle.queues.specs.declared.queue.Queues.{Queues}
 
 -- slots of a burst; as a slot's number it says that there is none
 abbrev pub room : ℕ
@@ -17,15 +18,9 @@ unfoldable pub standing : List Packet → List Packet
 standing [] = []
 standing (p ∷ ps) = cond (eqb p.lane no_lane) (standing ps) (p ∷ standing ps)
 
--- the packets in flight, of so many slots used
-abbrev pub flown : List ℕ → List ℕ → List Bool → ℕ → List Packet
-flown number lane bit used = standing (packets number lane bit used)
-
--- arrays with an entry for each slot
-pub record Roomy (number lane : List ℕ) (bit : List Bool) : Type 0 where
-  pub number_long : length number ≡ room
-  pub lane_long : length lane ≡ room
-  pub bit_long : length bit ≡ room
+-- the packets in flight, of the slots used
+abbrev pub flown : Queues → List Packet
+flown q = standing (packets q.number q.lane q.bit q.used)
 
 -- f is the first slot on lane x from slot i on, or none is
 pub record Next (lane : List ℕ) (used x i f : ℕ) : Type 0 where
@@ -34,7 +29,7 @@ pub record Next (lane : List ℕ) (used x i f : ℕ) : Type 0 where
   pub here : f < room → (i ≤ f) × (f < used) × (get_or lane f 0 ≡ x)
 
 -- each lane's slots in a queue: the first, after each the next, and the last
-pub record Queued (lane first last after : List ℕ) (used : ℕ) : Type 0 where
+pub record InOrder (lane first last after : List ℕ) (used : ℕ) : Type 0 where
   pub within : used ≤ room
   pub named : (i : ℕ) → i < used → get_or lane i 0 ≤ no_lane
   pub begins : (x : ℕ) → x < ends_most → Next lane used x 0 (get_or first x 0)
@@ -45,20 +40,23 @@ pub record Queued (lane first last after : List ℕ) (used : ℕ) : Type 0 where
   pub last_long : length last ≡ ends_most
   pub after_long : length after ≡ room
 
+abbrev pub Queued : Queues → Type 0
+Queued q = InOrder q.lane q.first q.last q.after q.used
+
 -- a lane with no slot keeps its last, and the slots from k on keep what comes after them
 pub record Idle (k : ℕ) (first last after last' after' : List ℕ) : Type 0 where
   pub lasts : (x : ℕ) → get_or first x 0 ≡ room → get_or last' x 0 ≡ get_or last x 0
   pub afters : (j : ℕ) → k ≤ j → get_or after' j 0 ≡ get_or after j 0
 
--- the packet n comes into slot k: behind the last of lane x, or as its first
-pub record Pushed (number lane : List ℕ) (bit : List Bool) (first last after : List ℕ) (k n x : ℕ) (b : Bool)
-    (number' lane' : List ℕ) (bit' : List Bool) (first' last' after' : List ℕ) : Type 0 where
-  pub numbered : number' ≡ set number k n
-  pub on : lane' ≡ set lane k x
-  pub with : bit' ≡ set bit k b
-  pub newest : last' ≡ set last x k
-  pub leads : first' ≡ cond (eqb (get_or first x 0) room) (set first x k) first
-  pub follows : after' ≡ cond (eqb (get_or first x 0) room) (set after k room) (set (set after k room) (get_or last x 0) k)
+-- the packet n comes into the next slot: behind the last of lane x, or as its first
+pub record Pushed (q : Queues) (n x : ℕ) (b : Bool) (q' : Queues) : Type 0 where
+  pub numbered : q'.number ≡ set q.number q.used n
+  pub on : q'.lane ≡ set q.lane q.used x
+  pub with : q'.bit ≡ set q.bit q.used b
+  pub newest : q'.last ≡ set q.last x q.used
+  pub leads : q'.first ≡ cond (eqb (get_or q.first x 0) room) (set q.first x q.used) q.first
+  pub follows : q'.after ≡ cond (eqb (get_or q.first x 0) room) (set q.after q.used room) (set (set q.after q.used room) (get_or q.last x 0) q.used)
+  pub counted : q'.used ≡ suc q.used
 
 -- the slots in use that were on link l are empty, the others as they were
 pub record Emptied (l used : ℕ) (old new : List ℕ) : Type 0 where

@@ -4,4 +4,4 @@
 
 mod queue;
 
-pub use queue::{NO_LANE, ROOM, cut, on_link, push, take};
+pub use queue::{NO_LANE, Queues, ROOM};

@@ -1,11 +1,9 @@
 // The packets of a burst in queues by lane: nothing is searched, and nothing moves.
-ghost use Rattle.std.specs.Prelude.{◌≡◌, Bool, List, [], ◌∷◌, ◌++◌, ℕ, ◌+◌, ◌-◌, ◌*◌, ◌≤◌, ◌<◌, length, get_or, set};
+ghost use Rattle.std.specs.Prelude.{◌≡◌, [], ◌∷◌, ◌++◌, ◌+◌, ◌*◌, ◌≤◌, ◌<◌, length, get_or, set};
 ghost use Rattle.model.specs.Limits.{links_most, ends_most};
 ghost use Rattle.model.specs.Lanes.{less};
 ghost use Rattle.model.specs.Fail.{off};
-ghost use Rattle.queues.specs.Queue.{room, no_lane, flown, Roomy, Queued, Pushed, Emptied};
-
-use arrays::wide;
+ghost use Rattle.queues.specs.Queue.{room, no_lane, flown, Queued, Pushed, Emptied};
 
 // Slots of a burst; as a slot's number it says that there is none.
 pub const ROOM: usize = 2 * model::FLIGHT;
@@ -13,90 +11,80 @@ pub const ROOM: usize = 2 * model::FLIGHT;
 // An empty slot is on this lane, which is none.
 pub const NO_LANE: u16 = model::ENDS as u16;
 
-// The packet in slot i, the first of lane x, goes.
-pub fn take<'a>(
-    lane: &mut [u16; ROOM],
-    first: &mut [u16; model::ENDS],
-    after: &'a [u16; ROOM],
-    i: usize,
-    x: usize,
-)
-    requires { (i < room) × (x < ends_most) × (length lane.old ≡ room) × (length first.old ≡ ends_most) }
-    ensures { ((last : List ℕ) (used : ℕ) → Queued lane.old first.old last after.now used → get_or first.old x 0 ≡ i → Queued lane.new first.new last after.now used) × ((first last after : List ℕ) (number : List ℕ) (bit : List Bool) (used : ℕ) → Queued lane.old first last after used → get_or first x 0 ≡ i → flown number lane.new bit used ≡ less x (flown number lane.old bit used)) × (length lane.new ≡ room) × (lane.new ≡ set lane.old i no_lane) × (first.new ≡ set first.old x (get_or after.now i 0)) }
-{
-    let next = after[i];
-    first[x] = next;
-    lane[i] = NO_LANE;
+// The packets of a burst.
+#[derive(Clone, Copy)]
+pub struct Queues {
+    // by slot, oldest sent first
+    pub number: [u32; ROOM],
+    pub lane: [u16; ROOM],
+    pub bit: [bool; ROOM],
+    // by lane, its first and its last slot
+    pub first: [u16; model::ENDS],
+    pub last: [u16; model::ENDS],
+    // by slot, the next of its lane
+    pub after: [u16; ROOM],
+    // slots in use
+    pub used: usize,
 }
 
-// A packet comes into slot k, the last of its lane.
-pub fn push(
-    number: &mut [u32; ROOM],
-    lane: &mut [u16; ROOM],
-    bit: &mut [bool; ROOM],
-    first: &mut [u16; model::ENDS],
-    last: &mut [u16; model::ENDS],
-    after: &mut [u16; ROOM],
-    k: usize,
-    n: u32,
-    x: usize,
-    b: bool,
-)
-    requires { (k < room) × (x < ends_most) × Roomy number.old lane.old bit.old × Queued lane.old first.old last.old after.old k }
-    ensures { (flown number.new lane.new bit.new (k + 1) ≡ flown number.old lane.old bit.old k ++ (record { number = n; lane = x; bit = b } ∷ [])) × Roomy number.new lane.new bit.new × Queued lane.new first.new last.new after.new (k + 1) × Pushed number.old lane.old bit.old first.old last.old after.old k n x b number.new lane.new bit.new first.new last.new after.new }
-{
-    number[k] = n;
-    lane[k] = x as u16;
-    bit[k] = b;
-    after[k] = ROOM as u16;
-    if wide(first[x]) == ROOM {
-        first[x] = k as u16;
-    } else {
-        let t = wide(last[x]);
-        after[t] = k as u16;
+impl Queues {
+    // The packet in slot i, the first of lane x, goes.
+    pub fn take(&mut self, i: usize, x: usize)
+        requires { (i < room) × (x < ends_most) }
+        ensures { (Queued self.old → get_or self.old.first x 0 ≡ i → Queued self.new × (flown self.new ≡ less x (flown self.old))) × (self.new ≡ record { number = self.old.number; lane = set self.old.lane i no_lane; bit = self.old.bit; first = set self.old.first x (get_or self.old.after i 0); last = self.old.last; after = self.old.after; used = self.old.used }) }
+    {
+        let next = self.after[i];
+        self.first[x] = next;
+        self.lane[i] = NO_LANE;
     }
-    last[x] = k as u16;
-}
 
-// How many packets are on link l.
-pub fn on_link(lane: &[u16; ROOM], used: usize, l: usize) -> usize
-    requires { (used ≤ room) × (l < links_most) }
-    ensures { (number : List ℕ) (bit : List Bool) → result + length (off l (flown number lane.now bit used)) ≡ length (flown number lane.now bit used) }
-{
-    let mut gone: usize = 0;
-    let mut i: usize = 0;
-    while i < used {
-        let j = i;
-        i += 1;
-        if wide(lane[j]) / 2 == l {
-            gone += 1;
+    // A packet comes into the next slot, the last of its lane.
+    pub fn push(&mut self, n: u32, x: usize, b: bool)
+        requires { (self.old.used < room) × (x < ends_most) × Queued self.old }
+        ensures { (flown self.new ≡ flown self.old ++ (record { number = n; lane = x; bit = b } ∷ [])) × Queued self.new × Pushed self.old n x b self.new }
+    {
+        let k = self.used;
+        self.number[k] = n;
+        self.lane[k] = x as u16;
+        self.bit[k] = b;
+        self.after[k] = ROOM as u16;
+        self.used = k + 1;
+        let newest = usize::from(self.last[x]);
+        self.last[x] = k as u16;
+        if usize::from(self.first[x]) == ROOM {
+            self.first[x] = k as u16;
+        } else {
+            self.after[newest] = k as u16;
         }
     }
-    gone
+
+    // How many packets are on link l.
+    pub fn on_link(&self, l: usize) -> usize
+        requires { (self.now.used ≤ room) × (l < links_most) }
+        ensures { result + length (off l (flown self.now)) ≡ length (flown self.now) }
+    {
+        packets::on_link(&self.lane[..self.used], l)
+    }
+
+    // The packets on link l go, and its lanes' queues with them.
+    pub fn cut(&mut self, l: usize)
+        requires { (self.old.used ≤ room) × (l < links_most) }
+        ensures { (Queued self.old → Queued self.new) × (flown self.new ≡ off l (flown self.old)) × Emptied l self.old.used self.old.lane self.new.lane × (self.new ≡ record { number = self.old.number; lane = self.new.lane; bit = self.old.bit; first = set (set self.old.first (2 * l) room) (2 * l + 1) room; last = self.old.last; after = self.old.after; used = self.old.used }) }
+    {
+        empty(&mut self.lane, self.used, l);
+        self.first[2 * l] = ROOM as u16;
+        self.first[2 * l + 1] = ROOM as u16;
+    }
 }
 
 // The slots on link l become empty.
 fn empty(lane: &mut [u16; ROOM], used: usize, l: usize)
-    requires { (used ≤ room) × (l < links_most) × (length lane.old ≡ room) }
+    requires { (used ≤ room) × (l < links_most) }
     ensures { Emptied l used lane.old lane.new }
 {
-    let mut i: usize = 0;
-    while i < used {
-        let j = i;
-        i += 1;
-        let x = lane[j];
-        if wide(x) / 2 == l {
+    for j in 0..used {
+        if usize::from(lane[j]) / 2 == l {
             lane[j] = NO_LANE;
         }
     }
-}
-
-// The packets on link l go, and its lanes' queues with them.
-pub fn cut(lane: &mut [u16; ROOM], first: &mut [u16; model::ENDS], used: usize, l: usize)
-    requires { (used ≤ room) × (l < links_most) × (length lane.old ≡ room) × (length first.old ≡ ends_most) }
-    ensures { ((last after : List ℕ) → Queued lane.old first.old last after used → Queued lane.new first.new last after used) × ((number : List ℕ) (bit : List Bool) → flown number lane.new bit used ≡ off l (flown number lane.old bit used)) × (length lane.new ≡ room) × Emptied l used lane.old lane.new × (first.new ≡ set (set first.old (2 * l) room) (2 * l + 1) room) }
-{
-    empty(lane, used, l);
-    first[2 * l] = ROOM as u16;
-    first[2 * l + 1] = ROOM as u16;
 }

@@ -7,19 +7,18 @@ use mathlib.Core.Logic.{inl, inr}
 use mathlib.Core.Bool.{Bool, false, cond}
 use mathlib.Core.List.{List, [], ◌∷◌, ◌++◌}
 use lib.Dec.{eqb}
-use lib.ListN.{length, get_or, set, length-set, length-append}
-use lib.Seq.{get_or-set_same, get_or-set_other}
-use borrow.Author.Tests.{eqb-true, eqb-false, eq-eqb, ne_eqb}
+use lib.ListN.{length, get_or, set, length-append}
+use borrow.Author.Tests.{eqb-false, eq-eqb, ne_eqb}
 use Rattle.model.specs.Limits.{ends_most, flight_most}
 use Rattle.model.specs.Below.{tab}
 use Rattle.model.specs.State.{Packet}
 use Rattle.model.proofs.Below.{look, tab_at}
 use Rattle.arrays.specs.View.{packet_at}
-use Rattle.arrays.specs.Flight.{Slots, packets}
+use Rattle.arrays.specs.Flight.{packets}
 use Rattle.arrays.proofs.Below.{length-tab}
 use Rattle.packets.proofs.Packets.{tab_snoc, put_at}
-use Rattle.queues.specs.Queue.{no_lane, standing, flown, Roomy}
-use Rattle.queues.proofs.Standing.{standing_snoc}
+use Rattle.queues.specs.Queue.{no_lane, standing}
+use Rattle.queues.proofs.Standing.{flown_in, standing_snoc}
 
 -- ---- those that stand
 standing_twice : (ps : List Packet) → standing (standing ps) ≡ standing ps
@@ -61,108 +60,64 @@ standing_named p (suc k) h d (suc i) l = elim (look (eqb (p 0).lane no_lane)) [
   | inr e ↦ rw e (standing_named (λ j. p (suc j)) k (λ j m. h (suc j) (omega arith)) d i (omega (arith, rw e at l)))
 ]
 
--- ---- spreading
-module _ (number lane : List ℕ) (bit : List Bool) where
-  -- the first i packets are in their slots
-  pub record Spread (i : ℕ) (numbers lanes : List ℕ) (bits : List Bool) : Type 0 where
-    pub same : packets numbers lanes bits i ≡ packets number lane bit i
-    pub lane_same : (j : ℕ) → j < i → get_or lanes j 0 ≡ get_or lane j 0
-    pub roomy : Roomy numbers lanes bits
-
-  pub spread_none : (numbers lanes : List ℕ) (bits : List Bool) → Roomy numbers lanes bits → Spread 0 numbers lanes bits
-  unfolding tab
-  spread_none numbers lanes bits r = record { same = refl; lane_same = λ j l. absurd (omega arith); roomy = r }
-
-  module _ (i : ℕ) (numbers lanes : List ℕ) (bits : List Bool) (s : Spread i numbers lanes bits) (h : i < flight_most) where
-    lane_more : (j : ℕ) → j < i + 1 → get_or (set lanes i (get_or lane i 0)) j 0 ≡ get_or lane j 0
-    lane_more j l = elim (look (eqb j i)) [
-      | inl e ↦
-          let here : j ≡ i = eqb-true j i e in
-          rw here (get_or-set_same lanes i (get_or lane i 0) 0 (omega (arith, s.roomy.lane_long)))
-      | inr e ↦ get_or-set_other lanes i j (get_or lane i 0) 0 (eqb-false j i e) ∙ s.lane_same j (omega (arith, eqb-false j i e))
-    ]
-
-    pub spread_more : Spread (i + 1) (set numbers i (get_or number i 0)) (set lanes i (get_or lane i 0)) (set bits i (get_or bit i false))
-    spread_more =
-        record {
-          same =
-              put_at numbers lanes bits i (get_or number i 0) (get_or lane i 0) (get_or bit i false)
-              (omega (arith, s.roomy.number_long)) (omega (arith, s.roomy.lane_long)) (omega (arith, s.roomy.bit_long))
-              ∙ ap (λ l. l ++ (packet_at number lane bit i ∷ [])) s.same
-              ∙ rw add-one (sym (tab_snoc (packet_at number lane bit) i));
-          lane_same = lane_more;
-          roomy = record {
-            number_long = length-set numbers i (get_or number i 0) ∙ s.roomy.number_long;
-            lane_long = length-set lanes i (get_or lane i 0) ∙ s.roomy.lane_long;
-            bit_long = length-set bits i (get_or bit i false) ∙ s.roomy.bit_long;
-          };
-        }
-
 -- ---- gathering
 module _ (numbers lanes : List ℕ) (bits : List Bool) where
   -- of the first i slots, those packets that stand are gathered
   pub record Gathered (i w : ℕ) (number lane : List ℕ) (bit : List Bool) : Type 0 where
-    pub gathered : packets number lane bit w ≡ flown numbers lanes bits i
-    pub slotted : Slots number lane bit
+    pub gathered : packets number lane bit w ≡ flown_in numbers lanes bits i
 
-  pub gathered_none : (number lane : List ℕ) (bit : List Bool) → Slots number lane bit → Gathered 0 0 number lane bit
+  pub gathered_none : (number lane : List ℕ) (bit : List Bool) → Gathered 0 0 number lane bit
   unfolding tab standing
-  gathered_none number lane bit s = record { gathered = refl; slotted = s }
+  gathered_none number lane bit = record { gathered = refl }
 
-  next : (i : ℕ) → flown numbers lanes bits (i + 1)
-      ≡ cond (eqb (get_or lanes i 0) no_lane) (flown numbers lanes bits i) (flown numbers lanes bits i ++ (packet_at numbers lanes bits i ∷ []))
+  next : (i : ℕ) → flown_in numbers lanes bits (i + 1)
+      ≡ cond (eqb (get_or lanes i 0) no_lane) (flown_in numbers lanes bits i) (flown_in numbers lanes bits i ++ (packet_at numbers lanes bits i ∷ []))
   next i = rw (add-one, tab_snoc (packet_at numbers lanes bits) i) (standing_snoc (packets numbers lanes bits i) (packet_at numbers lanes bits i))
 
   module _ (i w : ℕ) (number lane : List ℕ) (bit : List Bool) (g : Gathered i w number lane bit) where
     -- so many are gathered as stand
-    pub gathered_many : w ≡ length (flown numbers lanes bits i)
+    pub gathered_many : w ≡ length (flown_in numbers lanes bits i)
     gathered_many = sym (length-tab (packet_at number lane bit) w) ∙ ap length g.gathered
 
     pub gathered_gone : get_or lanes i 0 ≡ no_lane → Gathered (i + 1) w number lane bit
-    gathered_gone e = record { gathered = g.gathered ∙ sym (next i ∙ rw (eq-eqb (get_or lanes i 0) no_lane e)); slotted = g.slotted }
+    gathered_gone e = record { gathered = g.gathered ∙ sym (next i ∙ rw (eq-eqb (get_or lanes i 0) no_lane e)) }
 
     module _ (e : get_or lanes i 0 ≡ no_lane → ⊥) where
-      stays : flown numbers lanes bits (i + 1) ≡ flown numbers lanes bits i ++ (packet_at numbers lanes bits i ∷ [])
+      stays : flown_in numbers lanes bits (i + 1) ≡ flown_in numbers lanes bits i ++ (packet_at numbers lanes bits i ∷ [])
       stays = next i ∙ rw (ne_eqb (get_or lanes i 0) no_lane e)
 
       -- one more that stands is one of those that all the slots hold
-      pub gathered_room : (used : ℕ) → i < used → length (flown numbers lanes bits used) ≤ flight_most → w < flight_most
+      pub gathered_room : (used : ℕ) → i < used → length (flown_in numbers lanes bits used) ≤ flight_most → w < flight_most
       gathered_room used l few =
           omega (
             arith,
             few,
             gathered_many,
-            ap length stays ∙ length-append (flown numbers lanes bits i) (packet_at numbers lanes bits i ∷ []),
+            ap length stays ∙ length-append (flown_in numbers lanes bits i) (packet_at numbers lanes bits i ∷ []),
             standing_grows (packet_at numbers lanes bits) (i + 1) used (omega arith),
           )
 
-      pub gathered_stays : w < flight_most
+      pub gathered_stays : w < length number → w < length lane → w < length bit
           → Gathered (i + 1) (w + 1) (set number w (get_or numbers i 0)) (set lane w (get_or lanes i 0)) (set bit w (get_or bits i false))
-      gathered_stays l =
+      gathered_stays hn hl hb =
           record {
             gathered =
-                put_at number lane bit w (get_or numbers i 0) (get_or lanes i 0) (get_or bits i false)
-                (omega (arith, g.slotted.number_long)) (omega (arith, g.slotted.lane_long)) (omega (arith, g.slotted.bit_long))
+                put_at number lane bit w (get_or numbers i 0) (get_or lanes i 0) (get_or bits i false) hn hl hb
                 ∙ ap (λ ps. ps ++ (packet_at numbers lanes bits i ∷ [])) g.gathered
                 ∙ sym stays;
-            slotted = record {
-              number_long = length-set number w (get_or numbers i 0) ∙ g.slotted.number_long;
-              lane_long = length-set lane w (get_or lanes i 0) ∙ g.slotted.lane_long;
-              bit_long = length-set bit w (get_or bits i false) ∙ g.slotted.bit_long;
-            };
           }
 
   -- ---- gathered and spread again
-  module _ (number lane : List ℕ) (bit : List Bool) (used r : ℕ) (all : packets number lane bit r ≡ flown numbers lanes bits used) where
+  module _ (number lane : List ℕ) (bit : List Bool) (used r : ℕ) (all : packets number lane bit r ≡ flown_in numbers lanes bits used) where
     -- each of them is on a lane
     pub gathered_named : ((i : ℕ) → i < used → get_or lanes i 0 ≤ no_lane) → (i : ℕ) → i < r → get_or lane i 0 < ends_most
     gathered_named h i l =
         let d : Packet = packet_at number lane bit 0 in
-        let many : r ≡ length (flown numbers lanes bits used) = sym (length-tab (packet_at number lane bit) r) ∙ ap length all in
+        let many : r ≡ length (flown_in numbers lanes bits used) = sym (length-tab (packet_at number lane bit) r) ∙ ap length all in
         let on : (get_or (packets number lane bit r) i d).lane ≡ get_or lane i 0 = ap (λ p. p.lane) (tab_at d (packet_at number lane bit) r i l) in
         rw (← on, all) (standing_named (packet_at numbers lanes bits) used h d i (omega arith))
 
     -- spread over the first slots, they are those that stood
     pub spread_again : (numbers' lanes' : List ℕ) (bits' : List Bool) → packets numbers' lanes' bits' r ≡ packets number lane bit r
-        → flown numbers' lanes' bits' r ≡ flown numbers lanes bits used
+        → flown_in numbers' lanes' bits' r ≡ flown_in numbers lanes bits used
     spread_again numbers' lanes' bits' e = ap standing (e ∙ all) ∙ standing_twice (packets numbers lanes bits used)

@@ -1,39 +1,24 @@
 -- The queues of the lanes, threaded from the last slot to the first. Assumes nothing.
-use Prim.Native.Nat.{ℕ, suc, ◌+◌, ◌≤◌, ◌<◌}
+use Prim.Native.Nat.{ℕ, suc, ◌≤◌, ◌<◌}
 use native.Mathlib.Omega.{arith}
 use mathlib.Core.Path.{◌≡◌, refl, sym, ap, ◌∙◌, subst}
 use mathlib.Core.Logic.{inl, inr}
 use mathlib.Core.List.{List}
 use lib.Dec.{eqb}
-use lib.ListN.{length, get_or, set, length-set, replicate, length-replicate, get_or-replicate}
-use lib.Seq.{get_or-set_same, get_or-set_other, ext_get_or}
+use lib.ListN.{length, get_or, set, length-set}
+use lib.Seq.{get_or-set_same, get_or-set_other}
 use borrow.Author.Tests.{eqb-true, eqb-false}
 use Rattle.model.specs.Limits.{ends_most}
 use Rattle.model.proofs.Below.{look}
-use Rattle.queues.specs.Queue.{room, Next, Queued, Idle}
+use Rattle.queues.specs.declared.queue.Queues.{Queues}
+use Rattle.queues.specs.Queue.{room, Next, InOrder, Idle}
 
--- the lanes below x have no first slot
-pub record Cleared (x : ℕ) (first : List ℕ) : Type 0 where
-  pub none : (u : ℕ) → u < x → get_or first u 0 ≡ room
-  pub long : length first ≡ ends_most
-
-pub cleared_none : (first : List ℕ) → length first ≡ ends_most → Cleared 0 first
-cleared_none first l = record { none = λ u h. absurd (omega arith); long = l }
-
-pub cleared_more : (x : ℕ) (first : List ℕ) → x < ends_most → Cleared x first → Cleared (x + 1) (set first x room)
-cleared_more x first h c =
-    record {
-      none = λ u l. elim (look (eqb u x)) [
-        | inl e ↦ let here : u ≡ x = eqb-true u x e in rw here (get_or-set_same first x room 0 (omega (arith, c.long)))
-        | inr e ↦ get_or-set_other first x u room 0 (eqb-false u x e) ∙ c.none u (omega (arith, eqb-false u x e))
-      ];
-      long = length-set first x room ∙ c.long;
-    }
-
-pub cleared_all : (first : List ℕ) → Cleared ends_most first → first ≡ replicate ends_most room
-cleared_all first c =
-    ext_get_or 0 first (replicate ends_most room) (c.long ∙ sym (length-replicate ends_most room))
-    λ u h. let l : u < ends_most = omega (arith, c.long) in c.none u l ∙ sym (get_or-replicate ends_most u room 0 l)
+-- what threading leaves
+pub record Aside (s q : Queues) : Type 0 where
+  pub number : q.number ≡ s.number
+  pub lane : q.lane ≡ s.lane
+  pub bit : q.bit ≡ s.bit
+  pub used : q.used ≡ s.used
 
 module _ (lane : List ℕ) (used : ℕ) where
   -- the slots from i on are in queues
@@ -187,7 +172,7 @@ module _ (lane : List ℕ) (used : ℕ) where
         ]
 
   pub threading_all : used ≤ room → ((i : ℕ) → i < used → get_or lane i 0 < ends_most) → (first last after : List ℕ) → Threading 0 first last after
-      → Queued lane first last after used
+      → InOrder lane first last after used
   threading_all small named first last after t =
       record {
         within = small;

@@ -4,63 +4,38 @@
 
 ghost use Rattle.std.specs.Prelude.{◌≡◌, ℕ, ◌≤◌, ◌<◌, length, get_or, replicate};
 ghost use Rattle.model.specs.Limits.{ends_most, flight_most};
-ghost use Rattle.arrays.specs.Flight.{Slots, packets};
-ghost use Rattle.packets.specs.Moves.{Stay};
-ghost use Rattle.queues.specs.Queue.{room, flown, Roomy, Queued, Idle};
+ghost use Rattle.arrays.specs.Flight.{packets, flying_in};
+ghost use Rattle.packets.specs.Moves.{Stay, Stays};
+ghost use Rattle.queues.specs.Queue.{room, flown, Queued, Idle};
 
-use arrays::{SLOTS, wide};
-use queues::{NO_LANE, ROOM};
+use arrays::{Flight, SLOTS};
+use queues::{NO_LANE, Queues, ROOM};
 
-// The packets of a record, slot by slot.
-pub fn spread<'a>(
-    number: &'a [u32; SLOTS],
-    lane: &'a [u16; SLOTS],
-    bit: &'a [bool; SLOTS],
-    numbers: &mut [u32; ROOM],
-    lanes: &mut [u16; ROOM],
-    bits: &mut [bool; ROOM],
-    flying: usize,
-)
-    requires { (flying ≤ flight_most) × Roomy numbers.old lanes.old bits.old }
-    ensures { (packets numbers.new lanes.new bits.new flying ≡ packets number.now lane.now bit.now flying) × ((i : ℕ) → i < flying → get_or lanes.new i 0 ≡ get_or lane.now i 0) × Roomy numbers.new lanes.new bits.new × Stay flying numbers.old lanes.old bits.old numbers.new lanes.new bits.new }
+// The packets of a record, slot by slot; so many slots are in use.
+pub fn spread(flight: &Flight, queues: &mut Queues, flying: usize)
+    requires { flying ≤ flight_most }
+    ensures { (packets queues.new.number queues.new.lane queues.new.bit flying ≡ flying_in flight.now flying) × ((i : ℕ) → i < flying → get_or queues.new.lane i 0 ≡ get_or flight.now.lane i 0) × Stay flying queues.old.number queues.old.lane queues.old.bit queues.new.number queues.new.lane queues.new.bit × (queues.new ≡ record { number = queues.new.number; lane = queues.new.lane; bit = queues.new.bit; first = queues.old.first; last = queues.old.last; after = queues.old.after; used = flying }) }
 {
-    let mut i: usize = 0;
-    while i < flying {
-        let n = number[i];
-        numbers[i] = n;
-        let x = lane[i];
-        lanes[i] = x;
-        let b = bit[i];
-        bits[i] = b;
-        i += 1;
-    }
+    queues.number[..flying].copy_from_slice(&flight.number[..flying]);
+    queues.lane[..flying].copy_from_slice(&flight.lane[..flying]);
+    queues.bit[..flying].copy_from_slice(&flight.bit[..flying]);
+    queues.used = flying;
 }
 
 // The packets that still stand, oldest first, into the arrays of a record; gives how many.
-pub fn gather<'a>(
-    numbers: &'a [u32; ROOM],
-    lanes: &'a [u16; ROOM],
-    bits: &'a [bool; ROOM],
-    number: &mut [u32; SLOTS],
-    lane: &mut [u16; SLOTS],
-    bit: &mut [bool; SLOTS],
-    used: usize,
-) -> usize
-    requires { (used ≤ room) × (length (flown numbers.now lanes.now bits.now used) ≤ flight_most) × Slots number.old lane.old bit.old }
-    ensures { (result ≡ length (flown numbers.now lanes.now bits.now used)) × (packets number.new lane.new bit.new result ≡ flown numbers.now lanes.now bits.now used) × Slots number.new lane.new bit.new × Stay result number.old lane.old bit.old number.new lane.new bit.new }
+pub fn gather(queues: &Queues, flight: &mut Flight) -> usize
+    requires { (queues.now.used ≤ room) × (length (flown queues.now) ≤ flight_most) }
+    ensures { (result ≡ length (flown queues.now)) × (flying_in flight.new result ≡ flown queues.now) × Stays result flight.old flight.new }
 {
     let mut w: usize = 0;
-    let mut i: usize = 0;
-    while i < used {
-        let j = i;
-        i += 1;
-        let x = lanes[j];
+    for j in 0..queues.used {
+        let x = queues.lane[j];
         if x != NO_LANE {
-            let n = numbers[j];
-            let b = bits[j];
-            number[w] = n;
-            lane[w] = x;
-            bit[w] = b;
+            let n = queues.number[j];
+            let b = queues.bit[j];
+            flight.number[w] = n;
+            flight.lane[w] = x;
+            flight.bit[w] = b;
             w += 1;
         }
     }
@@ -68,60 +43,59 @@ pub fn gather<'a>(
 }
 
 // No lane has a first slot.
-pub fn clear(first: &mut [u16; model::ENDS])
-    requires { length first.old ≡ ends_most }
-    ensures { first.new ≡ replicate ends_most room }
+pub fn clear(queues: &mut Queues)
+    ensures { queues.new ≡ record { number = queues.old.number; lane = queues.old.lane; bit = queues.old.bit; first = replicate ends_most room; last = queues.old.last; after = queues.old.after; used = queues.old.used } }
 {
-    let mut x: usize = 0;
-    while x < model::ENDS {
-        first[x] = ROOM as u16;
-        x += 1;
-    }
+    queues.first = [ROOM as u16; model::ENDS];
 }
 
 // From the last slot to the first, each becomes the first of its lane's queue.
-pub fn thread_lanes(
-    lane: &[u16; ROOM],
-    used: usize,
-    first: &mut [u16; model::ENDS],
-    last: &mut [u16; model::ENDS],
-    after: &mut [u16; ROOM],
-)
-    requires { (used ≤ room) × ((i : ℕ) → i < used → get_or lane.now i 0 < ends_most) × ((x : ℕ) → x < ends_most → get_or first.old x 0 ≡ room) × (length first.old ≡ ends_most) × (length last.old ≡ ends_most) × (length after.old ≡ room) }
-    ensures { Queued lane.now first.new last.new after.new used × Idle used first.new last.old after.old last.new after.new }
+pub fn thread_lanes(queues: &mut Queues)
+    requires { (queues.old.used ≤ room) × ((i : ℕ) → i < queues.old.used → get_or queues.old.lane i 0 < ends_most) × ((x : ℕ) → x < ends_most → get_or queues.old.first x 0 ≡ room) }
+    ensures { Queued queues.new × Idle queues.old.used queues.new.first queues.old.last queues.old.after queues.new.last queues.new.after × (queues.new ≡ record { number = queues.old.number; lane = queues.old.lane; bit = queues.old.bit; first = queues.new.first; last = queues.new.last; after = queues.new.after; used = queues.old.used }) }
 {
-    let mut i = used;
-    while 0 < i {
-        i -= 1;
-        let x = wide(lane[i]);
-        let f = first[x];
-        if wide(f) == ROOM {
-            last[x] = i as u16;
+    for i in (0..queues.used).rev() {
+        let x = usize::from(queues.lane[i]);
+        let f = queues.first[x];
+        if usize::from(f) == ROOM {
+            queues.last[x] = i as u16;
         }
-        after[i] = f;
-        first[x] = i as u16;
+        queues.after[i] = f;
+        queues.first[x] = i as u16;
     }
 }
 
-// The packets move up to the front, and the slots behind them can be used again; gives how many are used.
-pub fn make_room(
-    numbers: &mut [u32; ROOM],
-    lanes: &mut [u16; ROOM],
-    bits: &mut [bool; ROOM],
-    first: &mut [u16; model::ENDS],
-    last: &mut [u16; model::ENDS],
-    after: &mut [u16; ROOM],
-    used: usize,
-) -> usize
-    requires { (length (flown numbers.old lanes.old bits.old used) ≤ flight_most) × Roomy numbers.old lanes.old bits.old × Queued lanes.old first.old last.old after.old used }
-    ensures { (result ≡ length (flown numbers.old lanes.old bits.old used)) × (flown numbers.new lanes.new bits.new result ≡ flown numbers.old lanes.old bits.old used) × Roomy numbers.new lanes.new bits.new × Queued lanes.new first.new last.new after.new result × Stay result numbers.old lanes.old bits.old numbers.new lanes.new bits.new × Idle result first.new last.old after.old last.new after.new }
+// The packets move up to the front, and the slots behind them can be used again.
+pub fn make_room(queues: &mut Queues)
+    requires { (length (flown queues.old) ≤ flight_most) × Queued queues.old }
+    ensures { (queues.new.used ≡ length (flown queues.old)) × (flown queues.new ≡ flown queues.old) × Queued queues.new × Stay queues.new.used queues.old.number queues.old.lane queues.old.bit queues.new.number queues.new.lane queues.new.bit × Idle queues.new.used queues.new.first queues.old.last queues.old.after queues.new.last queues.new.after }
 {
-    let mut number = [0u32; SLOTS];
-    let mut lane = [0u16; SLOTS];
-    let mut bit = [false; SLOTS];
-    let kept = gather(numbers, lanes, bits, &mut number, &mut lane, &mut bit, used);
-    spread(&number, &lane, &bit, numbers, lanes, bits, kept);
-    clear(first);
-    thread_lanes(lanes, kept, first, last, after);
-    kept
+    let mut flight = Flight {
+        number: [0; SLOTS],
+        lane: [0; SLOTS],
+        bit: [false; SLOTS],
+    };
+    let kept = gather(queues, &mut flight);
+    spread(&flight, queues, kept);
+    clear(queues);
+    thread_lanes(queues);
+}
+
+// The packets of a record, in queues.
+pub fn line_up(flight: &Flight, flying: usize) -> Queues
+    requires { (flying ≤ flight_most) × ((i : ℕ) → i < flying → get_or flight.now.lane i 0 < ends_most) }
+    ensures { (flown result ≡ flying_in flight.now flying) × Queued result × (result.used ≡ flying) }
+{
+    let mut queues = Queues {
+        number: [0; ROOM],
+        lane: [0; ROOM],
+        bit: [false; ROOM],
+        first: [ROOM as u16; model::ENDS],
+        last: [0; model::ENDS],
+        after: [0; ROOM],
+        used: 0,
+    };
+    spread(flight, &mut queues, flying);
+    thread_lanes(&mut queues);
+    queues
 }

@@ -4,40 +4,24 @@ use Rattle.queues.specs.Queue.{flown}
 use Rattle.arrays.proofs.Leaving.{passed_lane, passed_nothing, passed_none}
 use Rattle.queued.proofs.pass_on.Goals as goal
 
-pub bounds-local-x : goal.bounds-local-x
-bounds-local-x c = c.requires.1 _ c.in-Lane.is
+pub bounds-arrows-x : goal.bounds-arrows-x
+bounds-arrows-x c = c.requires.1 _ c.in-Lane.is
 
 pub push-requires : goal.push-requires
-push-requires c =
-    let p = c.requires in
-    (p.0, p.1 _ c.in-Lane.is, p.2, p.3)
+push-requires c = let p = c.requires in (p.0, p.1 _ c.in-Lane.is, p.2)
 
 pub returns-in-Lane : goal.returns-in-Lane
 returns-in-Lane c =
     let a = c.args in
-    let e = c.push.ensures in (
-      e.0
-          ∙ passed_lane a.local.now (flown a.number.now a.lane.now a.bit.now a.used) _ _ a.handled a.went
-          c.in-Packet.is
-          c.in-Lane.is,
-      e.1,
-      e.2,
-    )
+    let e = c.push.ensures in
+    (e.0 ∙ passed_lane a.arrows.now.local (flown a.queues.now) _ _ a.handled a.went c.in-Packet.is c.in-Lane.is, e.1)
 
 pub returns-in_default : goal.returns-in_default
 returns-in_default c =
-    let a = c.args in (
-      passed_none a.local.now (flown a.number.now a.lane.now a.bit.now a.used) a.handled a.went
-          c.in_default.not-Lane,
-      c.requires.2,
-      c.requires.3,
-    )
+    let a = c.args in
+    (passed_none a.arrows.now.local (flown a.queues.now) a.handled a.went c.in_default.not-Lane, c.requires.2)
 
 pub returns-in-Nothing : goal.returns-in-Nothing
 returns-in-Nothing c =
-    let a = c.args in (
-      passed_nothing a.local.now (flown a.number.now a.lane.now a.bit.now a.used) a.handled a.went
-          c.in-Nothing.is,
-      c.requires.2,
-      c.requires.3,
-    )
+    let a = c.args in
+    (passed_nothing a.arrows.now.local (flown a.queues.now) a.handled a.went c.in-Nothing.is, c.requires.2)

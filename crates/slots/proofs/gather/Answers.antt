@@ -6,60 +6,68 @@ use Rattle.slots.proofs.Gathered.{gathered_none, gathered_many, gathered_gone, g
 use Rattle.packets.proofs.Stays.{stay_all, stay_more}
 use borrow.Author.Rules.{rules}
 use Rattle.slots.proofs.gather.Goals as goal
-use Rattle.slots.proofs.gather.Goals.{Then-x-ne-NO_LANE}
+use Rattle.slots.proofs.gather.Goals.{Then-x-ne-NO_LANE, then-x-ne-NO_LANE, else-x-ne-NO_LANE}
 
-pub loop-i-init : goal.loop-i-init
-loop-i-init c =
-    let a = c.args in
-    (omega arith, gathered_none a.numbers.now a.lanes.now a.bits.now a.number.now a.lane.now a.bit.now c.requires.2, stay_all 0 _ _ _)
+pub loop-j-init : goal.loop-j-init
+loop-j-init c =
+    let q = c.args.queues.now in
+    let f = c.args.flight.now in
+    (gathered_none q.number q.lane q.bit f.number f.lane f.bit, stay_all 0 _ _ _)
 
 -- a packet that stands finds a slot free
-free : (c : Then-x-ne-NO_LANE) → c.loop-i.w < flight_most
+free : (c : Then-x-ne-NO_LANE) → c.loop-j.w < flight_most
 free c =
-    let a = c.args in
-    let h = c.loop-i in
-    gathered_room a.numbers.now a.lanes.now a.bits.now h.i h.w h.number h.lane h.bit h.invariant.1 c.if-x-ne-NO_LANE.true a.used (omega arith) c.requires.1
+    let q = c.args.queues.now in
+    let h = c.loop-j in
+    gathered_room q.number q.lane q.bit h.j h.w h.flight.number h.flight.lane h.flight.bit h.invariant.0 c.if-x-ne-NO_LANE.true q.used (omega arith) c.requires.1
 
-pub offset_bounds-number-w : goal.offset_bounds-number-w
-offset_bounds-number-w c = let l = free (goal.at.offset_bounds-number-w c).Then-x-ne-NO_LANE in search rules
+pub offset_bounds-flight-w : goal.offset_bounds-flight-w
+offset_bounds-flight-w c = let l = free (goal.at.offset_bounds-flight-w c).Then-x-ne-NO_LANE in search rules
 
-pub bounds-number-w : goal.bounds-number-w
-bounds-number-w c = let l = free (goal.at.bounds-number-w c).Then-x-ne-NO_LANE in search rules
+pub bounds-flight-w : goal.bounds-flight-w
+bounds-flight-w c = let l = free (goal.at.bounds-flight-w c).Then-x-ne-NO_LANE in search rules
 
-pub offset_bounds-lane-w : goal.offset_bounds-lane-w
-offset_bounds-lane-w c = let l = free (goal.at.offset_bounds-lane-w c).Then-x-ne-NO_LANE in search rules
+pub offset_bounds-flight-w-then-x-ne-NO_LANE : goal.offset_bounds-flight-w-then-x-ne-NO_LANE
+offset_bounds-flight-w-then-x-ne-NO_LANE c =
+    let l = free (goal.at.offset_bounds-flight-w-then-x-ne-NO_LANE c).Then-x-ne-NO_LANE in
+    search rules
 
-pub bounds-lane-w : goal.bounds-lane-w
-bounds-lane-w c = let l = free (goal.at.bounds-lane-w c).Then-x-ne-NO_LANE in search rules
+pub bounds-flight-w-then-x-ne-NO_LANE : goal.bounds-flight-w-then-x-ne-NO_LANE
+bounds-flight-w-then-x-ne-NO_LANE c = let l = free (goal.at.bounds-flight-w-then-x-ne-NO_LANE c).Then-x-ne-NO_LANE in search rules
 
-pub bounds-bit-w : goal.bounds-bit-w
-bounds-bit-w c = let l = free (goal.at.bounds-bit-w c).Then-x-ne-NO_LANE in search rules
+pub bounds-flight-w-then-x-ne-NO_LANE-2 : goal.bounds-flight-w-then-x-ne-NO_LANE-2
+bounds-flight-w-then-x-ne-NO_LANE-2 c =
+    let l = free (goal.at.bounds-flight-w-then-x-ne-NO_LANE-2 c).Then-x-ne-NO_LANE in
+    search rules
 
 pub overflow_add-w : goal.overflow_add-w
 overflow_add-w c = let l = free (goal.at.overflow_add-w c).Then-x-ne-NO_LANE in search rules
 
-pub loop-i-smaller-then-x-ne-NO_LANE : goal.loop-i-smaller-then-x-ne-NO_LANE
-loop-i-smaller-then-x-ne-NO_LANE c = let l = free (goal.at.loop-i-smaller-then-x-ne-NO_LANE c).Then-x-ne-NO_LANE in search rules
-
-pub loop-i-preserved-then-x-ne-NO_LANE : goal.loop-i-preserved-then-x-ne-NO_LANE
-loop-i-preserved-then-x-ne-NO_LANE c =
-    let a = c.args in
-    let h = c.loop-i in
-    (omega arith, gathered_stays a.numbers.now a.lanes.now a.bits.now h.i h.w h.number h.lane h.bit h.invariant.1 c.if-x-ne-NO_LANE.true (free (goal.at.loop-i-preserved-then-x-ne-NO_LANE c).Then-x-ne-NO_LANE), stay_more h.w h.number h.lane h.bit _ _ _ h.invariant.2)
-
-pub loop-i-preserved : goal.loop-i-preserved
-loop-i-preserved c =
-    let a = c.args in
-    let h = c.loop-i in
-    (omega arith, gathered_gone a.numbers.now a.lanes.now a.bits.now h.i h.w h.number h.lane h.bit h.invariant.1 c.if-x-ne-NO_LANE.false, h.invariant.2)
+pub loop-j-preserved : goal.loop-j-preserved
+loop-j-preserved c =
+    let q = c.args.queues.now in
+    let h = c.loop-j in
+    elim c.if-x-ne-NO_LANE.branch [
+      | then-x-ne-NO_LANE w ↦
+          let l = gathered_room q.number q.lane q.bit h.j h.w h.flight.number h.flight.lane h.flight.bit h.invariant.0 w.if-x-ne-NO_LANE.true q.used (omega arith) c.requires.1 in
+          rw (w.flight-is, w.w-is) (
+            gathered_stays q.number q.lane q.bit h.j h.w h.flight.number h.flight.lane h.flight.bit h.invariant.0 w.if-x-ne-NO_LANE.true
+                (omega arith) (omega arith) (omega arith),
+            stay_more h.w h.flight.number h.flight.lane h.flight.bit _ _ _ h.invariant.1,
+          )
+      | else-x-ne-NO_LANE w ↦
+          rw (w.flight-is, w.w-is) (
+            gathered_gone q.number q.lane q.bit h.j h.w h.flight.number h.flight.lane h.flight.bit h.invariant.0 w.if-x-ne-NO_LANE.false,
+            h.invariant.1,
+          )
+    ]
 
 pub returns : goal.returns
 returns c =
-    let a = c.args in
-    let h = c.loop-i in
-    let e : h.i ≡ a.used = omega arith in (
-      rw e at (gathered_many a.numbers.now a.lanes.now a.bits.now h.i h.w h.number h.lane h.bit h.invariant.1),
-      rw e at h.invariant.1.gathered,
-      h.invariant.1.slotted,
-      h.invariant.2,
+    let q = c.args.queues.now in
+    let h = c.loop-j in
+    let e : h.j ≡ q.used = omega arith in (
+      rw e at (gathered_many q.number q.lane q.bit h.j h.w h.flight.number h.flight.lane h.flight.bit h.invariant.0),
+      rw e at h.invariant.0.gathered,
+      h.invariant.1,
     )

@@ -1,33 +1,47 @@
 -- Those that stand are gathered, spread over the first slots and put into queues again. Assumes nothing.
 use native.Mathlib.Omega.{arith}
 use mathlib.Core.Path.{ap, ◌∙◌}
-use lib.ListN.{length, get_or, length-replicate, get_or-replicate}
+use lib.ListN.{get_or, get_or-replicate}
 use Rattle.model.specs.Limits.{ends_most}
+use Rattle.queues.specs.declared.queue.Queues.{Queues}
 use Rattle.queues.specs.Queue.{room}
 use Rattle.slots.proofs.Gathered.{gathered_named, spread_again}
 use Rattle.slots.proofs.make_room.Goals as goal
 
 pub thread_lanes-requires : goal.thread_lanes-requires
 thread_lanes-requires c =
-    let a = c.args in
+    let q = c.args.queues.now in
+    let f = c.gather-kept.new.flight in
     let p = c.requires in
     let g = c.gather-kept.ensures in
     let s = c.spread.ensures in
     let e = c.clear.ensures in
-    let on = gathered_named a.numbers.now a.lanes.now a.bits.now c.gather-kept.new.number c.gather-kept.new.lane c.gather-kept.new.bit a.used _
-    g.1 p.2.named in
-    (omega arith, λ i l. rw (s.1 i l) (on i l), λ x l. ap (λ f. get_or f x 0) e ∙ get_or-replicate ends_most x room 0 l, ap length e ∙ length-replicate ends_most room, p.2.last_long, p.2.after_long)
+    let on = gathered_named q.number q.lane q.bit f.number f.lane f.bit q.used _ g.1 p.1.named in
+    let used = ap (λ (x : Queues). x.used) e ∙ ap (λ (x : Queues). x.used) s.3 in (
+      omega (arith, used, g.0, p.0),
+      λ i l. rw (ap (λ (x : Queues). x.lane) e, s.1 i (rw used at l)) (on i (rw used at l)),
+      λ x l. ap (λ (y : Queues). get_or y.first x 0) e ∙ get_or-replicate ends_most x room 0 l,
+    )
 
 pub returns : goal.returns
 returns c =
-    let a = c.args in
+    let q = c.args.queues.now in
+    let f = c.gather-kept.new.flight in
     let g = c.gather-kept.ensures in
-    let s = c.spread.ensures in (
-      g.0,
-      spread_again a.numbers.now a.lanes.now a.bits.now c.gather-kept.new.number c.gather-kept.new.lane c.gather-kept.new.bit a.used _
-          g.1 c.spread.new.numbers c.spread.new.lanes c.spread.new.bits s.0,
-      s.2,
-      c.thread_lanes.ensures.0,
-      s.3,
-      c.thread_lanes.ensures.1,
+    let s = c.spread.ensures in
+    let e = c.clear.ensures in
+    let t = c.thread_lanes.ensures in
+    let m = c.spread.new.queues in
+    let cleared = ap (λ (x : Queues). x.used) e ∙ ap (λ (x : Queues). x.used) s.3 in
+    let used = ap (λ (x : Queues). x.used) t.2 ∙ cleared in
+    let number = ap (λ (x : Queues). x.number) t.2 ∙ ap (λ (x : Queues). x.number) e in
+    let lane = ap (λ (x : Queues). x.lane) t.2 ∙ ap (λ (x : Queues). x.lane) e in
+    let bit = ap (λ (x : Queues). x.bit) t.2 ∙ ap (λ (x : Queues). x.bit) e in
+    let last = ap (λ (x : Queues). x.last) e ∙ ap (λ (x : Queues). x.last) s.3 in
+    let after = ap (λ (x : Queues). x.after) e ∙ ap (λ (x : Queues). x.after) s.3 in (
+      used ∙ g.0,
+      rw (number, lane, bit, used) (spread_again q.number q.lane q.bit f.number f.lane f.bit q.used _ g.1 m.number m.lane m.bit s.0),
+      t.0,
+      rw (number, lane, bit, used) s.2,
+      rw used (rw (cleared, last, after) at t.1),
     )

@@ -1,22 +1,32 @@
+-- Three copies. Assumes nothing.
 use native.Mathlib.Omega.{arith}
-use mathlib.Core.Path.{◌≡◌}
-use Rattle.slots.proofs.Gathered.{spread_none, spread_more}
-use Rattle.packets.proofs.Stays.{stay_all, stay_more}
+use mathlib.Core.Path.{refl}
+use mathlib.Core.Bool.{false}
+use Rattle.arrays.specs.View.{packet_at}
+use Rattle.arrays.proofs.Below.{tab_same}
+use Rattle.slots.proofs.Copied.{copied_here, copied_past}
 use Rattle.slots.proofs.spread.Goals as goal
-
-pub loop-i-init : goal.loop-i-init
-loop-i-init c =
-    let a = c.args in
-    (omega arith, spread_none a.number.now a.lane.now a.bit.now a.numbers.now a.lanes.now a.bits.now c.requires.1, stay_all 0 _ _ _)
-
-pub loop-i-preserved : goal.loop-i-preserved
-loop-i-preserved c =
-    let a = c.args in
-    let h = c.loop-i in
-    (omega arith, spread_more a.number.now a.lane.now a.bit.now h.i h.numbers h.lanes h.bits h.invariant.1 (omega arith), stay_more h.i h.numbers h.lanes h.bits _ _ _ h.invariant.2)
 
 pub returns : goal.returns
 returns c =
-    let h = c.loop-i in
-    let e : h.i ≡ c.args.flying = omega arith in
-    (rw e at h.invariant.1.same, rw e at h.invariant.1.lane_same, h.invariant.1.roomy, rw e at h.invariant.2)
+    let k = c.args.flying in
+    let f = c.args.flight.now in
+    let q = c.args.queues.now in
+    let n = c.copy_from_slice.ensures.after in
+    let l = c.copy_from_slice-2.ensures.after in
+    let b = c.copy_from_slice-3.ensures.after in (
+      tab_same _ (packet_at f.number f.lane f.bit) k
+          (λ i h.
+          rw (
+            copied_here k f.number q.number _ n (omega arith) i 0 h,
+            copied_here k f.lane q.lane _ l (omega arith) i 0 h,
+            copied_here k f.bit q.bit _ b (omega arith) i false h,
+          )),
+      λ i h. copied_here k f.lane q.lane _ l (omega arith) i 0 h,
+      record {
+        numbers = λ i h. copied_past k f.number q.number _ n (omega arith) i 0 h;
+        lanes = λ i h. copied_past k f.lane q.lane _ l (omega arith) i 0 h;
+        bits = λ i h. copied_past k f.bit q.bit _ b (omega arith) i false h;
+      },
+      refl,
+    )

@@ -3,26 +3,37 @@ use mathlib.Core.Path.{◌≡◌}
 use Rattle.packets.proofs.Packets.{kept_none, kept_gone, kept_stays}
 use Rattle.packets.proofs.Stays.{stay_all, stay_more}
 use Rattle.packets.proofs.list.keep_off.Goals as goal
+use Rattle.packets.proofs.list.keep_off.Goals.{then-from-l, else-from-l}
 
-pub loop-i-init : goal.loop-i-init
-loop-i-init c =
-    let a = c.args in
-    (omega arith, omega arith, kept_none a.number.now a.lane.now a.bit.now a.l c.requires.1, stay_all 0 _ _ _)
+pub loop-j-init : goal.loop-j-init
+loop-j-init c =
+    let f = c.args.flight.now in
+    (omega arith, kept_none f.number f.lane f.bit c.args.l, stay_all 0 _ _ _)
 
-pub loop-i-preserved-then-wide-l : goal.loop-i-preserved-then-wide-l
-loop-i-preserved-then-wide-l c =
-    let a = c.args in
-    let h = c.loop-i in
-    (omega arith, omega arith, kept_stays a.number.now a.lane.now a.bit.now a.l h.i h.w h.number h.lane h.bit h.invariant.2 h.invariant.0 (λ e. c.if-wide-l.true (omega (arith, c.wide.ensures, e))) (omega arith), stay_more h.w h.number h.lane h.bit _ _ _ h.invariant.3)
-
-pub loop-i-preserved : goal.loop-i-preserved
-loop-i-preserved c =
-    let a = c.args in
-    let h = c.loop-i in
-    (omega arith, omega arith, kept_gone a.number.now a.lane.now a.bit.now a.l h.i h.w h.number h.lane h.bit h.invariant.2 h.invariant.0 (omega (arith, c.wide.ensures, c.if-wide-l.false)), h.invariant.3)
+pub loop-j-preserved : goal.loop-j-preserved
+loop-j-preserved c =
+    let f = c.args.flight.now in
+    let h = c.loop-j in
+    let k = h.invariant.1 in
+    elim c.if-from-l.branch [
+      | then-from-l w ↦
+          rw (w.flight-is, w.w-is) (
+            omega arith,
+            kept_stays f.number f.lane f.bit c.args.l h.j h.w h.flight.number h.flight.lane h.flight.bit k h.invariant.0
+                (λ e. w.if-from-l.true (omega (arith, c.from.ensures, e))) (omega arith) (omega arith) (omega arith),
+            stay_more h.w h.flight.number h.flight.lane h.flight.bit _ _ _ h.invariant.2,
+          )
+      | else-from-l w ↦
+          rw (w.flight-is, w.w-is) (
+            omega arith,
+            kept_gone f.number f.lane f.bit c.args.l h.j h.w h.flight.number h.flight.lane h.flight.bit k h.invariant.0
+                (omega (arith, c.from.ensures, w.if-from-l.false)),
+            h.invariant.2,
+          )
+    ]
 
 pub returns : goal.returns
 returns c =
-    let h = c.loop-i in
-    let e : h.i ≡ c.args.flying = omega arith in
-    (omega arith, rw e at h.invariant.2.kept, h.invariant.2.room, h.invariant.3)
+    let h = c.loop-j in
+    let e : h.j ≡ c.args.flying = omega arith in
+    (omega arith, rw e at h.invariant.1.kept, h.invariant.2)

@@ -1,7 +1,9 @@
-use Prim.Native.Nat.{min}
+use Prim.Native.Nat.{◌+◌, min}
 use native.Mathlib.Omega.{arith}
-use mathlib.Core.Path.{◌≡◌, sym, ◌∙◌}
+use mathlib.Core.Path.{◌≡◌, sym, ap, ◌∙◌}
 use Rattle.arrays.proofs.Searches.{first_start, first_block, first_end}
+use Rattle.packets.specs.Moves.{in_use}
+use Rattle.packets.proofs.Uses.{used_past}
 use Rattle.packets.proofs.search.oldest.Goals as goal
 
 pub loop-base-init : goal.loop-base-init
@@ -12,18 +14,27 @@ loop-base-preserved c =
     let h = c.loop-base in
     let a = c.args in
     let here : min h.base a.flying ≡ h.base = omega arith in
-    rw here at h.invariant ∙ first_block _ 16 h.base a.flying (sym c.in_block.ensures ∙ c.if-in_block.false) (omega arith)
+    rw here at h.invariant ∙ first_block _ 16 h.base a.flying (sym c.block_has.ensures ∙ c.if-block_has.false) (omega arith)
 
-pub returns-then-flying-base : goal.returns-then-flying-base
-returns-then-flying-base c =
-    let h = c.loop-base in
-    let a = c.args in
-    let here : min h.base a.flying ≡ a.flying = omega arith in
-    sym (rw here at h.invariant ∙ first_end _ a.flying a.flying (omega arith) (omega arith))
-
-pub returns-then-in_block : goal.returns-then-in_block
-returns-then-in_block c =
+pub returns-then-block_has : goal.returns-then-block_has
+returns-then-block_has c =
     let h = c.loop-base in
     let a = c.args in
     let here : min h.base a.flying ≡ h.base = omega arith in
-    c.oldest_from.ensures ∙ sym (rw here at h.invariant)
+    c.oldest_from.ensures ∙ ap (in_use a.flying) (sym (rw here at h.invariant))
+
+pub returns : goal.returns
+returns c =
+    let h = c.loop-base in
+    let a = c.args in
+    let here : min h.base a.flying ≡ a.flying = omega arith in
+    used_past a.flying (omega (arith, rw here at h.invariant ∙ first_end _ a.flying a.flying (omega arith) (omega arith)))
+
+pub returns-else-block_has : goal.returns-else-block_has
+returns-else-block_has c =
+    let h = c.loop-base in
+    let a = c.args in
+    let here : min h.base a.flying ≡ h.base = omega arith in
+    let past : min (h.base + 16) a.flying ≡ a.flying = omega arith in
+    let on = rw here at h.invariant ∙ first_block _ 16 h.base a.flying (sym c.block_has.ensures ∙ c.if-block_has.false) (omega arith) in
+    used_past a.flying (omega (arith, rw past at on ∙ first_end _ a.flying a.flying (omega arith) (omega arith)))

@@ -1,0 +1,15 @@
+-- The link's slots are empty, and so are the queues of its two lanes. Assumes nothing.
+use mathlib.Core.Path.{refl}
+use Rattle.queues.proofs.Cuts.{flown_off, queued_cut}
+use Rattle.queues.proofs.queue.Queues.cut.Goals as goal
+
+pub returns : goal.returns
+returns c =
+    let s = c.args.self.now in
+    let l = c.args.l in
+    let e = c.empty.ensures in (
+      λ q. queued_cut s.lane _ s.used l c.requires.1 e s.first s.last s.after q,
+      flown_off s.lane _ s.used l c.requires.1 e s.number s.bit,
+      e,
+      refl,
+    )
