@@ -1,6 +1,8 @@
 // The numbers of an event's refusals.
 pub const DONE: u32 = 0;
 
+pub const NOT_FORMED: u32 = 1;
+
 pub const NO_MORE_EVENTS: u32 = 5;
 
 pub const NO_SUCH: u32 = 6;

@@ -6,6 +6,8 @@ mod answers;
 mod depart;
 mod tally;
 
-pub use answers::{DONE, FLIGHT_FULL, LANE_EMPTY, LINK_DOWN, NO_MORE_EVENTS, NO_SUCH, OUT_OF_STEP};
+pub use answers::{
+    DONE, FLIGHT_FULL, LANE_EMPTY, LINK_DOWN, NO_MORE_EVENTS, NO_SUCH, NOT_FORMED, OUT_OF_STEP,
+};
 pub use depart::{onward, turned_way};
 pub use tally::{Step, bare, counted, done};

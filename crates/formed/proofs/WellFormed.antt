@@ -13,7 +13,7 @@ use Rattle.model.specs.Below.{any, all, tab}
 use Rattle.model.specs.State.{Packet, State, opp, whole}
 use Rattle.model.specs.Formed.{sized, limits_hold, link_formed, end_formed, packet_formed, packets_formed, turns_formed, summed, well_formed}
 use Rattle.model.proofs.Below.{clash, and_both, any_false}
-use Rattle.arrays.specs.declared.Tally.{Tally}
+use Rattle.arrays.specs.declared.record.Tally.{Tally}
 use Rattle.arrays.specs.View.{used, net_of, ends_of, packet_at, counts_of, state_of}
 use Rattle.over.specs.Formed.{tallied}
 use Rattle.arrays.proofs.Below.{not_leb, not_ltb, all_not_any, any_same, any_never, any_or, any_pairs, all_head, length-tab, used_in}

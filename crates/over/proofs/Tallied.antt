@@ -7,7 +7,7 @@ use lib.Dec.{leb, ltb, eqb}
 use borrow.Author.Tests.{le-leb, lt-leb}
 use Rattle.model.specs.Limits.{nodes_most, links_most, flight_most, events_most}
 use Rattle.model.specs.Formed.{sized}
-use Rattle.arrays.specs.declared.Tally.{Tally}
+use Rattle.arrays.specs.declared.record.Tally.{Tally}
 use Rattle.over.specs.Formed.{tallied}
 
 module _ (nodes destination links : ℕ) (t : Tally) where

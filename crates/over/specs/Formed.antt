@@ -2,7 +2,7 @@
 use Rattle.std.specs.Prelude.{ℕ, ◌+◌, Bool, ◌&&◌, leb, eqb}
 use Rattle.model.specs.Limits.{flight_most, events_most}
 use Rattle.model.specs.Formed.{sized}
-use Rattle.arrays.specs.declared.Tally.{Tally}
+use Rattle.arrays.specs.declared.record.Tally.{Tally}
 
 -- "the limits hold", "admitted .. at most events", "and admitted = in flight + delivered + lost + stranded"
 unfoldable pub tallied : ℕ → ℕ → ℕ → Tally → Bool

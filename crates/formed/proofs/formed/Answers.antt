@@ -4,23 +4,31 @@ use native.Mathlib.Omega.{arith}
 use mathlib.Core.Path.{sym, ◌∙◌}
 use borrow.Author.Tests.{leb-false}
 use Rattle.model.proofs.Below.{or_neither, any_false}
-use Rattle.formed.proofs.WellFormed.{Within, within, limits_refused, first_refused, then_refused, Passed, passed_down, passed_live}
+use Rattle.formed.proofs.WellFormed.{shown as checked, bits_unread, Within, within, limits_refused, first_refused, then_refused, Passed, passed_down, passed_live}
 use mathlib.Core.Path.{ap}
 use mathlib.Core.Bool.{not}
+use mathlib.Core.Path.{◌≡◌}
+use Rattle.model.specs.Formed.{well_formed}
+use Rattle.arrays.specs.declared.record.Plan.{Plan}
+use Rattle.arrays.specs.declared.record.Arrows.{Arrows}
+use Rattle.arrays.specs.declared.record.Flight.{Flight}
+use Rattle.arrays.specs.declared.record.Tally.{Tally}
+use Rattle.arrays.specs.View.{shown}
+use Rattle.arrays.specs.Flight.{flying_in}
 use Rattle.formed.proofs.formed.Goals as goal
 use Rattle.formed.proofs.formed.Goals.{Else-not-limits_hold, Else-turns_over-number_over}
 
 -- what the limits give to the loops
-bounds : (c : goal.Else-not-limits_hold) → let a = c.args in Within a.nodes a.destination a.links a.tally
+bounds : (c : goal.Else-not-limits_hold) → let a = c.args in Within a.plan.now.nodes a.plan.now.destination a.plan.now.links a.tally
 bounds c =
     let a = c.args in
-    within a.nodes a.destination a.links a.tally (sym c.limits_hold.ensures ∙ c.if-not-limits_hold.false)
+    within a.plan.now.nodes a.plan.now.destination a.plan.now.links a.tally (sym c.limits_hold.ensures ∙ c.if-not-limits_hold.false)
 
 -- what the first two groups of tests give
-passed : (c : goal.Else-turns_over-number_over) → let a = c.args in Passed a.node.now a.live.now a.out.now a.mark.now a.turns.now a.number.now a.lane.now a.nodes a.destination a.links a.tally
+passed : (c : goal.Else-turns_over-number_over) → let a = c.args in Passed a.plan.now.node a.arrows.now.live a.arrows.now.out a.arrows.now.mark a.arrows.now.turns a.flight.now.number a.flight.now.lane a.plan.now.nodes a.plan.now.destination a.plan.now.links a.tally
 passed c =
     let a = c.args in
-    let w = within a.nodes a.destination a.links a.tally (sym c.limits_hold.ensures ∙ c.if-not-limits_hold.false) in
+    let w = within a.plan.now.nodes a.plan.now.destination a.plan.now.links a.tally (sym c.limits_hold.ensures ∙ c.if-not-limits_hold.false) in
     let first = or_neither _ _ c.if-node_over-self_linked.false in
     let link = or_neither _ _ first.0 in
     let second = or_neither _ _ c.if-turns_over-number_over.false in
@@ -35,16 +43,22 @@ passed c =
       lanes = sym c.lane_over.ensures ∙ second.1;
     }
 
+-- neither the bits of ends nor those of packets are read
+unread : (p : Plan) (a : Arrows) (f : Flight) (t : Tally) → well_formed (checked p.node a.live a.out a.mark a.turns f.number f.lane p.nodes p.destination p.links t)
+    ≡ well_formed (shown p a (flying_in f t.flying) t)
+unread p a f t = bits_unread p.node a.live a.out a.mark a.local a.remote f.bit a.turns f.number f.lane p.nodes p.destination p.links t
+
 pub returns-then-not-limits_hold : goal.returns-then-not-limits_hold
 returns-then-not-limits_hold c =
     let a = c.args in
-    limits_refused a.node.now a.live.now a.out.now a.mark.now a.turns.now a.number.now a.lane.now a.nodes a.destination a.links a.tally _ c.limits_hold.ensures (ap not c.if-not-limits_hold.true)
+    limits_refused a.plan.now.node a.arrows.now.live a.arrows.now.out a.arrows.now.mark a.arrows.now.turns a.flight.now.number a.flight.now.lane a.plan.now.nodes a.plan.now.destination a.plan.now.links a.tally _ c.limits_hold.ensures (ap not c.if-not-limits_hold.true)
+    ∙ unread a.plan.now a.arrows.now a.flight.now a.tally
 
 pub overflow_mul-ends : goal.overflow_mul-ends
 overflow_mul-ends c = let w = bounds (goal.at.overflow_mul-ends c).Else-not-limits_hold in omega arith
 
-pub overflow_cast-nodes : goal.overflow_cast-nodes
-overflow_cast-nodes c = let w = bounds (goal.at.overflow_cast-nodes c).Else-not-limits_hold in omega arith
+pub overflow_cast-plan : goal.overflow_cast-plan
+overflow_cast-plan c = let w = bounds (goal.at.overflow_cast-plan c).Else-not-limits_hold in omega arith
 
 pub node_over-requires : goal.node_over-requires
 node_over-requires c = let w = bounds (goal.at.node_over-requires c).Else-not-limits_hold in omega arith
@@ -59,8 +73,9 @@ pub returns-then-node_over-self_linked : goal.returns-then-node_over-self_linked
 returns-then-node_over-self_linked c =
     let a = c.args in
     let w = bounds (goal.at.returns-then-node_over-self_linked c).Else-not-limits_hold in
-    first_refused a.node.now a.live.now a.out.now a.mark.now a.turns.now a.number.now a.lane.now a.nodes a.destination a.links a.tally
+    first_refused a.plan.now.node a.arrows.now.live a.arrows.now.out a.arrows.now.mark a.arrows.now.turns a.flight.now.number a.flight.now.lane a.plan.now.nodes a.plan.now.destination a.plan.now.links a.tally
     _ _ _ c.node_over.ensures c.self_linked.ensures c.out_marked.ensures c.if-node_over-self_linked.true
+    ∙ unread a.plan.now a.arrows.now a.flight.now a.tally
 
 pub turns_over-requires : goal.turns_over-requires
 turns_over-requires c = let w = bounds (goal.at.turns_over-requires c).Else-not-limits_hold in omega arith
@@ -77,8 +92,9 @@ lane_over-requires c = let w = bounds (goal.at.lane_over-requires c).Else-not-li
 pub returns-then-turns_over-number_over : goal.returns-then-turns_over-number_over
 returns-then-turns_over-number_over c =
     let a = c.args in
-    then_refused a.node.now a.live.now a.out.now a.mark.now a.turns.now a.number.now a.lane.now a.nodes a.destination a.links a.tally
+    then_refused a.plan.now.node a.arrows.now.live a.arrows.now.out a.arrows.now.mark a.arrows.now.turns a.flight.now.number a.flight.now.lane a.plan.now.nodes a.plan.now.destination a.plan.now.links a.tally
     _ _ _ c.turns_over.ensures c.number_over.ensures c.lane_over.ensures c.if-turns_over-number_over.true
+    ∙ unread a.plan.now a.arrows.now a.flight.now a.tally
 
 pub some_down-requires : goal.some_down-requires
 some_down-requires c = let w = bounds (goal.at.some_down-requires c).Else-not-limits_hold in omega arith
@@ -91,16 +107,18 @@ lane_down-requires c =
     let a = c.args in
     let w = bounds (goal.at.lane_down-requires c).Else-not-limits_hold in
     let z = passed (goal.at.lane_down-requires c).Else-turns_over-number_over in
-    (w.flight_fits, λ i h. omega (arith, leb-false (2 * a.links) _ (any_false _ a.tally.flying i z.lanes h)))
+    (w.flight_fits, λ i h. omega (arith, leb-false (2 * a.plan.now.links) _ (any_false _ a.tally.flying i z.lanes h)))
 
 pub returns-then-some_down : goal.returns-then-some_down
 returns-then-some_down c =
     let a = c.args in
-    passed_down a.node.now a.live.now a.out.now a.mark.now a.turns.now a.number.now a.lane.now a.nodes a.destination a.links a.tally
+    passed_down a.plan.now.node a.arrows.now.live a.arrows.now.out a.arrows.now.mark a.arrows.now.turns a.flight.now.number a.flight.now.lane a.plan.now.nodes a.plan.now.destination a.plan.now.links a.tally
     (passed (goal.at.returns-then-some_down c).Else-turns_over-number_over) _ _ c.down_marked.ensures c.lane_down.ensures
+    ∙ unread a.plan.now a.arrows.now a.flight.now a.tally
 
 pub returns : goal.returns
 returns c =
     let a = c.args in
-    passed_live a.node.now a.live.now a.out.now a.mark.now a.turns.now a.number.now a.lane.now a.nodes a.destination a.links a.tally
+    passed_live a.plan.now.node a.arrows.now.live a.arrows.now.out a.arrows.now.mark a.arrows.now.turns a.flight.now.number a.flight.now.lane a.plan.now.nodes a.plan.now.destination a.plan.now.links a.tally
     (passed (goal.at.returns c).Else-turns_over-number_over) (sym c.some_down.ensures ∙ c.if-some_down.false)
+    ∙ unread a.plan.now a.arrows.now a.flight.now a.tally
