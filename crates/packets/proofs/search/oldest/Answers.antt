@@ -1,4 +1,4 @@
-use Prim.Native.Nat.{◌+◌, min}
+use Prim.Native.Nat.{min}
 use native.Mathlib.Omega.{arith}
 use mathlib.Core.Path.{◌≡◌, sym, ap, ◌∙◌}
 use Rattle.arrays.proofs.Searches.{first_start, first_block, first_end}
@@ -29,12 +29,3 @@ returns c =
     let a = c.args in
     let here : min h.base a.flying ≡ a.flying = omega arith in
     used_past a.flying (omega (arith, rw here at h.invariant ∙ first_end _ a.flying a.flying (omega arith) (omega arith)))
-
-pub returns-else-block_has : goal.returns-else-block_has
-returns-else-block_has c =
-    let h = c.loop-base in
-    let a = c.args in
-    let here : min h.base a.flying ≡ h.base = omega arith in
-    let past : min (h.base + 16) a.flying ≡ a.flying = omega arith in
-    let on = rw here at h.invariant ∙ first_block _ 16 h.base a.flying (sym c.block_has.ensures ∙ c.if-block_has.false) (omega arith) in
-    used_past a.flying (omega (arith, rw past at on ∙ first_end _ a.flying a.flying (omega arith) (omega arith)))

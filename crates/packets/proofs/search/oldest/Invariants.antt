@@ -10,3 +10,6 @@ abbrev pub invariant-loop-base : goal.invariant-loop-base
 invariant-loop-base l =
     first (λ i. eqb (get_or l.flight.lane i 0) l.x) 0 l.flying
     ≡ first (λ i. eqb (get_or l.flight.lane i 0) l.x) (min l.base l.flying) (l.flying - min l.base l.flying)
+
+abbrev pub decreases-loop-base : goal.decreases-loop-base
+decreases-loop-base l = l.flying - l.base
