@@ -2,45 +2,20 @@
 // Public for `formed` alone, which tests the limits first, so these may require them: docs/EXCEPTIONS.md.
 #![tactic(auto)]
 
-ghost use Rattle.std.specs.Prelude.{◌≡◌, false, not, ◌&&◌, ◌||◌, ℕ, ◌+◌, ◌*◌, ◌/◌, ◌≤◌, ◌<◌, get_or};
+ghost use Rattle.std.specs.Prelude.{◌≡◌, false, not, ◌&&◌, ◌||◌, ℕ, ◌+◌, ◌*◌, ◌/◌, ◌≤◌, ◌<◌, get_or, length};
 ghost use Rattle.model.specs.Limits.{links_most, ends_most, flight_most};
 ghost use Rattle.model.specs.Below.{any};
 
 use arrays::{BLOCK, SLOTS};
 
-// Some link of the block is down with a marked end.
-fn marked_block<'a>(
-    live: &'a [bool; model::LINKS],
-    mark: &'a [bool; model::ENDS],
-    from: usize,
-) -> bool
-    requires { from + 16 ≤ links_most }
-    ensures { result ≡ any (λ j. not (get_or live.now (from + j) false) && (get_or mark.now (2 * (from + j)) false || get_or mark.now (2 * (from + j) + 1) false)) 16 }
+// Some of these links is down with a marked end.
+fn marked_in<'a>(live: &'a [bool], mark: &'a [bool]) -> bool
+    requires { 2 * length live.now ≤ length mark.now }
+    ensures { result ≡ any (λ l. not (get_or live.now l false) && (get_or mark.now (2 * l) false || get_or mark.now (2 * l + 1) false)) (length live.now) }
 {
     let mut bad = false;
-    let mut j: usize = 0;
-    while j < BLOCK {
-        let l = from + j;
-        bad = bad | (!live[l] & (mark[2 * l] | mark[2 * l + 1]));
-        j += 1;
-    }
-    bad
-}
-
-// The same of links too few for a block.
-fn marked_few<'a>(
-    live: &'a [bool; model::LINKS],
-    mark: &'a [bool; model::ENDS],
-    links: usize,
-) -> bool
-    requires { links ≤ links_most }
-    ensures { result ≡ any (λ l. not (get_or live.now l false) && (get_or mark.now (2 * l) false || get_or mark.now (2 * l + 1) false)) links }
-{
-    let mut bad = false;
-    let mut l: usize = 0;
-    while l < links {
-        bad = bad | (!live[l] & (mark[2 * l] | mark[2 * l + 1]));
-        l += 1;
+    for (l, &up) in live.iter().enumerate() {
+        bad |= !up & (mark[2 * l] | mark[2 * l + 1]);
     }
     bad
 }
@@ -55,44 +30,29 @@ pub fn down_marked<'a>(
     ensures { result ≡ any (λ l. not (get_or live.now l false) && (get_or mark.now (2 * l) false || get_or mark.now (2 * l + 1) false)) links }
 {
     if links < BLOCK {
-        return marked_few(live, mark, links);
+        return marked_in(&live[..links], mark);
     }
     let mut bad = false;
-    let mut l: usize = 0;
-    while l < links {
-        let from = if l + BLOCK <= links { l } else { links - BLOCK };
-        bad = bad | marked_block(live, mark, from);
-        l += BLOCK;
+    for b in 0..links.div_ceil(BLOCK) {
+        let from = (b * BLOCK).min(links - BLOCK);
+        bad |= marked_in(
+            &live[from..from + BLOCK],
+            &mark[2 * from..2 * from + 2 * BLOCK],
+        );
     }
     bad
 }
 
-// Some packet of the block is on a link that is down: flags joined as bytes are one load for each.
-fn lane_block<'a>(lane: &'a [u16; SLOTS], live: &'a [bool; model::LINKS], from: usize) -> bool
-    requires { (from + 16 ≤ flight_most) × ((j : ℕ) → j < 16 → get_or lane.now (from + j) 0 < ends_most) }
-    ensures { result ≡ any (λ j. not (get_or live.now (get_or lane.now (from + j) 0 / 2) false)) 16 }
+// Some of these packets is on a link that is down: flags joined as bytes are one load for each.
+fn lane_in<'a>(lane: &'a [u16], live: &'a [bool; model::LINKS]) -> bool
+    requires { (i : ℕ) → i < length lane.now → get_or lane.now i 0 < ends_most }
+    ensures { result ≡ any (λ i. not (get_or live.now (get_or lane.now i 0 / 2) false)) (length lane.now) }
 {
-    let mut up: u8 = 1;
-    let mut j: usize = 0;
-    while j < BLOCK {
-        up = up & (live[lane[from + j] as usize / 2] as u8);
-        j += 1;
+    let mut up = 1;
+    for &a in lane {
+        up &= u8::from(live[usize::from(a) / 2]);
     }
     up == 0
-}
-
-// The same of packets too few for a block.
-fn lane_few<'a>(lane: &'a [u16; SLOTS], live: &'a [bool; model::LINKS], flying: usize) -> bool
-    requires { (flying ≤ flight_most) × ((i : ℕ) → i < flying → get_or lane.now i 0 < ends_most) }
-    ensures { result ≡ any (λ i. not (get_or live.now (get_or lane.now i 0 / 2) false)) flying }
-{
-    let mut bad = false;
-    let mut i: usize = 0;
-    while i < flying {
-        bad = bad | !live[lane[i] as usize / 2];
-        i += 1;
-    }
-    bad
 }
 
 // Some packet is on a lane of a link that is down.
@@ -101,18 +61,12 @@ pub fn lane_down<'a>(lane: &'a [u16; SLOTS], live: &'a [bool; model::LINKS], fly
     ensures { result ≡ any (λ i. not (get_or live.now (get_or lane.now i 0 / 2) false)) flying }
 {
     if flying < BLOCK {
-        return lane_few(lane, live, flying);
+        return lane_in(&lane[..flying], live);
     }
     let mut bad = false;
-    let mut i: usize = 0;
-    while i < flying {
-        let from = if i + BLOCK <= flying {
-            i
-        } else {
-            flying - BLOCK
-        };
-        bad = bad | lane_block(lane, live, from);
-        i += BLOCK;
+    for b in 0..flying.div_ceil(BLOCK) {
+        let from = (b * BLOCK).min(flying - BLOCK);
+        bad |= lane_in(&lane[from..from + BLOCK], live);
     }
     bad
 }

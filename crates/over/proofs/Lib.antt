@@ -1,1 +1,2 @@
 pub mod Tallied
+pub mod Taken

@@ -2,12 +2,25 @@
 // Public for `formed` alone, which tests the limits first, so a loop may require them: docs/EXCEPTIONS.md.
 #![tactic(auto)]
 
-ghost use Rattle.std.specs.Prelude.{◌≡◌, false, not, ◌&&◌, ◌+◌, ◌*◌, ◌≤◌, ◌<◌, leb, ltb, eqb, get_or};
+ghost use Rattle.std.specs.Prelude.{◌≡◌, false, not, Bool, ◌&&◌, ◌+◌, ◌*◌, ◌≤◌, ◌<◌, leb, ltb, eqb, get_or};
+ghost use Rattle.std.specs.List.{list_any};
 ghost use Rattle.model.specs.Limits.{nodes_most, links_most, ends_most, flight_most};
 ghost use Rattle.model.specs.Below.{any};
 ghost use Rattle.over.specs.Formed.{tallied};
 
 use arrays::{SLOTS, Tally};
+
+// Whether some item passes the test. All are asked, with no early end: so the loop is vector code.
+fn some<T: Copy, F: Fn(T) -> bool>(items: &[T], test: F) -> bool
+    requires { F.IsAlwaysCallable test }
+    ensures { (p : T → Bool) → ((x : T) (b : Bool) → F.post test x b → b ≡ p x) → result ≡ list_any p items.now }
+{
+    let mut found = false;
+    for &x in items {
+        found |= test(x);
+    }
+    found
+}
 
 // Some end is at no node: by how much its number exceeds the last is one vector instruction.
 pub fn node_over(node: &[u16; model::ENDS], ends: usize, nodes: u16) -> bool
@@ -15,13 +28,9 @@ pub fn node_over(node: &[u16; model::ENDS], ends: usize, nodes: u16) -> bool
     ensures { result ≡ any (λ x. leb nodes (get_or node.now x 0)) ends }
 {
     let last = nodes - 1;
-    let mut over: u16 = 0;
-    let mut x: usize = 0;
-    while x < ends {
-        let a = node[x];
-        let more = if last < a { a - last } else { 0 };
-        over = over | more;
-        x += 1;
+    let mut over = 0;
+    for &a in &node[..ends] {
+        over |= a.saturating_sub(last);
     }
     over != 0
 }
@@ -32,10 +41,8 @@ pub fn self_linked(node: &[u16; model::ENDS], links: usize) -> bool
     ensures { result ≡ any (λ l. eqb (get_or node.now (2 * l) 0) (get_or node.now (2 * l + 1) 0)) links }
 {
     let mut bad = false;
-    let mut l: usize = 0;
-    while l < links {
-        bad = bad | (node[2 * l] == node[2 * l + 1]);
-        l += 1;
+    for l in 0..links {
+        bad |= node[2 * l] == node[2 * l + 1];
     }
     bad
 }
@@ -50,10 +57,8 @@ pub fn out_marked<'a>(
     ensures { result ≡ any (λ x. get_or out.now x false && get_or mark.now x false) ends }
 {
     let mut fit = true;
-    let mut x: usize = 0;
-    while x < ends {
-        fit = fit & !(out[x] & mark[x]);
-        x += 1;
+    for x in 0..ends {
+        fit &= !(out[x] & mark[x]);
     }
     !fit
 }
@@ -63,13 +68,7 @@ pub fn turns_over(turns: &[u32; model::NODES], nodes: usize, events: u32) -> boo
     requires { nodes ≤ nodes_most }
     ensures { result ≡ any (λ v. ltb events (get_or turns.now v 0)) nodes }
 {
-    let mut bad = false;
-    let mut v: usize = 0;
-    while v < nodes {
-        bad = bad | (events < turns[v]);
-        v += 1;
-    }
-    bad
+    some(&turns[..nodes], |t| events < t)
 }
 
 // Some packet's number is not below admitted.
@@ -77,17 +76,7 @@ pub fn number_over(number: &[u32; SLOTS], flying: usize, admitted: u32) -> bool
     requires { flying ≤ flight_most }
     ensures { result ≡ any (λ i. leb admitted (get_or number.now i 0)) flying }
 {
-    if admitted == 0 {
-        return 0 < flying;
-    }
-    let last = admitted - 1;
-    let mut bad = false;
-    let mut i: usize = 0;
-    while i < flying {
-        bad = bad | (last < number[i]);
-        i += 1;
-    }
-    bad
+    some(&number[..flying], |n| admitted <= n)
 }
 
 // Some packet is on no lane.
@@ -95,17 +84,7 @@ pub fn lane_over(lane: &[u16; SLOTS], flying: usize, lanes: u16) -> bool
     requires { flying ≤ flight_most }
     ensures { result ≡ any (λ i. leb lanes (get_or lane.now i 0)) flying }
 {
-    if lanes == 0 {
-        return 0 < flying;
-    }
-    let last = lanes - 1;
-    let mut fit = true;
-    let mut i: usize = 0;
-    while i < flying {
-        fit = fit & (lane[i] <= last);
-        i += 1;
-    }
-    !fit
+    some(&lane[..flying], |a| lanes <= a)
 }
 
 // Some link is down.
@@ -113,13 +92,7 @@ pub fn some_down(live: &[bool; model::LINKS], links: usize) -> bool
     requires { links ≤ links_most }
     ensures { result ≡ any (λ l. not (get_or live.now l false)) links }
 {
-    let mut bad = false;
-    let mut l: usize = 0;
-    while l < links {
-        bad = bad | !live[l];
-        l += 1;
-    }
-    bad
+    some(&live[..links], |up| !up)
 }
 
 // The limits and the sum, on numbers alone: what the loops below rest on.
@@ -129,12 +102,12 @@ pub fn limits_hold(nodes: usize, destination: usize, links: usize, t: Tally) -> 
     let flying = t.flying;
     let events = t.events;
     let admitted = t.admitted;
-    let sum = t.delivered as u64 + t.lost as u64 + t.stranded as u64;
+    let sum = u64::from(t.delivered) + u64::from(t.lost) + u64::from(t.stranded);
     let a = (1 <= nodes) & (nodes <= model::NODES);
     let b = (destination < nodes) & (links <= model::LINKS);
     let c = (events <= model::EVENTS) & (admitted <= events);
     if model::FLIGHT < flying {
         return false;
     }
-    a & b & c & (admitted as u64 == flying as u64 + sum)
+    a & b & c & (u64::from(admitted) == flying as u64 + sum)
 }

@@ -46,11 +46,6 @@ module _ (list : List ℕ) (shorter : List Bool) where
         (rw (← next_is tail, eq-eqb tail tail refl))
         (λ v n. rw (← next_is v, ne_eqb tail v (λ q. n (sym q))) (or_else (leads l v) (get_or shorter head false))))
 
-  pub leads_end : (l : ℕ) (sets : List Bool) → l ≤ links_in list → links_in list ≤ l → sets ≡ tab (leads l) nodes_most → sets ≡ tab (leads (links_in list)) nodes_most
-  leads_end l sets a b e =
-      let q : l ≡ links_in list = omega arith in
-      e ∙ ap (λ k. tab (leads k) nodes_most) q
-
 module _ (nodes : ℕ) (list : List ℕ) (most : nodes ≤ nodes_most) where
   pub round_none : take nodes (replicate nodes_most true) ≡ sets_out nodes list 0
   unfolding sets_out

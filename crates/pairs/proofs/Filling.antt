@@ -1,15 +1,14 @@
 -- Arrays that a loop fills from the front. Assumes nothing.
-use Prim.Native.Nat.{ℕ, ◌+◌, ◌≤◌, ◌<◌}
+use Prim.Native.Nat.{ℕ, zero, suc, ◌+◌, ◌≤◌, ◌<◌}
 use native.Mathlib.Omega.{arith}
-use mathlib.Core.Path.{◌≡◌, sym, ap, ◌∙◌}
+use mathlib.Core.Path.{◌≡◌, sym, ap₂, ◌∙◌}
 use mathlib.Core.Logic.{inl, inr}
-use mathlib.Core.Bool.{Bool, true, false, cond, ◌&&◌}
-use mathlib.Core.List.{List}
+use mathlib.Core.Bool.{true, false, cond}
+use mathlib.Core.List.{List, ◌∷◌, ◌++◌}
 use lib.Dec.{ltb}
-use lib.ListN.{length, set, replicate, get_or-eq_default}
+use lib.ListN.{set, replicate, drop}
 use borrow.Author.Tests.{lt-ltb, le-ltb, ltb-true, ltb-false}
 use Rattle.model.specs.Below.{tab}
-use Rattle.model.specs.Opening.{node_in}
 use Rattle.model.proofs.Below.{look}
 use Rattle.arrays.proofs.Below.{tab_replicate, tab_same, set_tab}
 
@@ -30,20 +29,14 @@ module _ {ℓ} {A : Type ℓ} (f : ℕ → A) (d : A) (n : ℕ) where
         | inr b ↦ rw (b, le-ltb j (i + 1) (omega (arith, ltb-false j i b)))
       ]))
 
-  pub fill_end : (i k : ℕ) (g : ℕ → A) (xs : List A) → i ≤ k → k ≤ i → ((j : ℕ) → up_to f d k j ≡ g j) → xs ≡ tab (up_to f d i) n → xs ≡ tab g n
-  fill_end i k g xs a b e x =
-      let q : i ≡ k = omega arith in
-      x ∙ ap (λ m. tab (up_to f d m) n) q ∙ tab_same (up_to f d k) g n (λ j h. e j)
-
--- past a list's end stands the default
-pub list_end : (list : List ℕ) (j : ℕ) → up_to (node_in list) 0 (length list) j ≡ node_in list j
-list_end list j = elim (look (ltb j (length list))) [
-  | inl e ↦ rw e
-  | inr e ↦ rw e (sym (get_or-eq_default list 0 (ltb-false j (length list) e)))
-]
-
-pub truths_end : (k j : ℕ) → up_to (λ i. true) false k j ≡ ltb j k
-truths_end k j = elim (look (ltb j k)) [ inl e ↦ rw e | inr e ↦ rw e ]
-
-pub tests_end : (f : ℕ → Bool) (k j : ℕ) → up_to f false k j ≡ (ltb j k && f j)
-tests_end f k j = elim (look (ltb j k)) [ inl e ↦ rw e | inr e ↦ rw e ]
+-- so many truths, and falsehoods after them
+pub truths : (k n : ℕ) → k ≤ n → replicate k true ++ drop k (replicate n false) ≡ tab (λ l. ltb l k) n
+unfolding tab
+truths zero n h = tab_replicate false n ∙ tab_same (λ l. false) (λ l. ltb l 0) n (λ l b. sym (le-ltb l 0 (omega arith)))
+truths (suc k) zero h = absurd (omega arith)
+truths (suc k) (suc n) h =
+    ap₂ (λ b l. b ∷ l) (sym (lt-ltb 0 (suc k) (omega arith)))
+    (truths k n (omega arith) ∙ tab_same (λ l. ltb l k) (λ l. ltb (suc l) (suc k)) n (λ l b. elim (look (ltb l k)) [
+      | inl e ↦ rw (e, lt-ltb (suc l) (suc k) (omega (arith, ltb-true l k e)))
+      | inr e ↦ rw (e, le-ltb (suc l) (suc k) (omega (arith, ltb-false l k e)))
+    ]))

@@ -9,11 +9,9 @@ pub fn nodes_of(list: &[u32]) -> [u16; model::ENDS]
     requires { (length list.now ≤ ends_most) × ((x : ℕ) → node_in list.now x < nodes_most) }
     ensures { result ≡ tab (node_in list.now) ends_most }
 {
-    let mut node = [0u16; model::ENDS];
-    let mut x: usize = 0;
-    while x < list.len() {
-        node[x] = list[x] as u16;
-        x += 1;
+    let mut node = [0; model::ENDS];
+    for (x, &a) in list.iter().enumerate() {
+        node[x] = a as u16;
     }
     node
 }
@@ -24,11 +22,7 @@ pub fn live_of(links: usize) -> [bool; model::LINKS]
     ensures { result ≡ tab (λ l. ltb l links) links_most }
 {
     let mut live = [false; model::LINKS];
-    let mut l: usize = 0;
-    while l < links {
-        live[l] = true;
-        l += 1;
-    }
+    live[..links].fill(true);
     live
 }
 
@@ -37,12 +31,9 @@ pub fn side_of(links: usize, side: usize) -> [bool; model::ENDS]
     requires { links ≤ links_most }
     ensures { result ≡ tab (λ x. ltb x (2 * links) && eqb (x % 2) side) ends_most }
 {
-    let ends = 2 * links;
     let mut on = [false; model::ENDS];
-    let mut x: usize = 0;
-    while x < ends {
+    for x in 0..2 * links {
         on[x] = x % 2 == side;
-        x += 1;
     }
     on
 }

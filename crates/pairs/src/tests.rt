@@ -26,16 +26,10 @@ pub fn first_bad(nodes: u32, list: &[u32]) -> usize
     ensures { result ≡ first_bad_link nodes list.now }
 {
     let links = list.len() / 2;
-    let mut l: usize = 0;
-    loop {
-        if l == links {
-            break l;
+    for l in 0..links {
+        if !joined(nodes, list[2 * l], list[2 * l + 1]) {
+            return l;
         }
-        let tail = list[2 * l];
-        let head = list[2 * l + 1];
-        if !joined(nodes, tail, head) {
-            break l;
-        }
-        l += 1;
     }
+    links
 }

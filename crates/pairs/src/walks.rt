@@ -10,14 +10,11 @@ fn longer(list: &[u32], shorter: &[bool; model::NODES]) -> [bool; model::NODES]
     requires { (x : ℕ) → node_in list.now x < nodes_most }
     ensures { result ≡ tab (λ v. any (λ l. eqb (node_in list.now (end l 0)) v && get_or shorter.now (node_in list.now (end l 1)) false) (links_in list.now)) nodes_most }
 {
-    let links = list.len() / 2;
     let mut sets = [false; model::NODES];
-    let mut l: usize = 0;
-    while l < links {
+    for l in 0..list.len() / 2 {
         let tail = list[2 * l] as usize;
         let head = list[2 * l + 1] as usize;
-        sets[tail] = sets[tail] | shorter[head];
-        l += 1;
+        sets[tail] |= shorter[head];
     }
     sets
 }
@@ -28,10 +25,8 @@ fn some_sets(sets: &[bool; model::NODES], nodes: usize) -> bool
     ensures { result ≡ any (λ v. get_or sets.now v false) nodes }
 {
     let mut found = false;
-    let mut v: usize = 0;
-    while v < nodes {
-        found = found | sets[v];
-        v += 1;
+    for v in 0..nodes {
+        found |= sets[v];
     }
     found
 }
@@ -42,11 +37,8 @@ pub fn closed_walk(nodes: usize, list: &[u32]) -> bool
     ensures { result ≡ holds_closed_walk nodes list.now }
 {
     let mut sets = [true; model::NODES];
-    let mut k: usize = 0;
-    while k < nodes {
-        let next = longer(list, &sets);
-        sets = next;
-        k += 1;
+    for _ in 0..nodes {
+        sets = longer(list, &sets);
     }
     some_sets(&sets, nodes)
 }

@@ -1,37 +1,39 @@
-use Prim.Native.Nat.{◌+◌, ◌-◌, min}
-use native.Mathlib.Omega.{arith}
-use mathlib.Core.Path.{◌≡◌, ap₂, ◌∙◌}
-use mathlib.Core.Bool.{◌||◌}
+use Rattle.std.proofs.Common.{false, ◌≡◌, ap₂, ◌∙◌, ◌+◌, ◌-◌, ◌*◌, ◌||◌, min, arith}
+use Rattle.std.proofs.lemmas.List.{get_or-take, length-take-le}
 use Rattle.arrays.proofs.Loops.{any_none, any_block}
+use Rattle.down.proofs.Slices.{any_as, part_long, part_at}
 use Rattle.down.proofs.down_marked.Invariants.{bad_at}
 use Rattle.down.proofs.down_marked.Goals as goal
-use Rattle.down.proofs.down_marked.Goals.{else-l-links, then-l-links}
 
 pub returns-then-links-lt-BLOCK : goal.returns-then-links-lt-BLOCK
-returns-then-links-lt-BLOCK c = c.marked_few.ensures
+returns-then-links-lt-BLOCK c =
+    let a = c.args in
+    c.marked_in.ensures ∙ any_as _ (bad_at a.live.now a.mark.now) _ a.links (length-take-le a.links a.live.now (omega arith))
+    (λ l h. rw (get_or-take a.links a.live.now l _ h))
 
-pub loop-l-init : goal.loop-l-init
-loop-l-init c =
+pub loop-b-init : goal.loop-b-init
+loop-b-init c =
     let z : min 0 c.args.links ≡ 0 = omega arith in
     rw z (any_none _)
 
-pub marked_block-bad-requires : goal.marked_block-bad-requires
-marked_block-bad-requires c =
+pub loop-b-preserved : goal.loop-b-preserved
+loop-b-preserved c =
+    let h = c.loop-b in
     let a = c.args in
-    let b : c.if-l-links.from ≡ min c.loop-l.l (a.links - 16) = elim c.if-l-links.branch [ then-l-links w ↦ omega arith | else-l-links w ↦ omega arith ] in
-    omega (arith, b)
-
-pub loop-l-preserved : goal.loop-l-preserved
-loop-l-preserved c =
-    let h = c.loop-l in
-    let a = c.args in
-    let b : c.if-l-links.from ≡ min h.l (a.links - 16) = elim c.if-l-links.branch [ then-l-links w ↦ omega arith | else-l-links w ↦ omega arith ] in
-    let here : min h.l a.links ≡ h.l = omega arith in
-    ap₂ ◌||◌ (rw here at h.invariant) c.marked_block-bad.ensures
-    ∙ any_block (bad_at a.live.now a.mark.now) 16 c.if-l-links.from h.l (min (h.l + 16) a.links) (omega (arith, b)) (omega arith) (omega (arith, b))
-
-pub returns : goal.returns
-returns c =
-    let h = c.loop-l in
-    let e : min h.l c.args.links ≡ c.args.links = omega arith in
-    rw e at h.invariant
+    let from = c.min-from.result in
+    let f : from ≡ min (h.b * 16) (a.links - 16) = c.min-from.ensures in
+    let here : min (h.b * 16) a.links ≡ h.b * 16 = omega arith in
+    let bad = bad_at a.live.now a.mark.now in
+    let long = part_long false a.live.now from 16 (omega (arith, f)) in
+    ap₂ ◌||◌ (rw here at h.invariant) (c.marked_in-bad.ensures ∙ any_as _ (λ j. bad (from + j)) _ 16 long
+    (λ j l.
+    let even : 2 * from + 2 * j ≡ 2 * (from + j) = omega arith in
+    let odd : 2 * from + (2 * j + 1) ≡ 2 * (from + j) + 1 = omega arith in
+    rw (
+      part_at false a.live.now from 16 j l,
+      part_at false a.mark.now (2 * from) 32 (2 * j) (omega arith),
+      part_at false a.mark.now (2 * from) 32 (2 * j + 1) (omega arith),
+      even,
+      odd,
+    )))
+    ∙ any_block bad 16 from (h.b * 16) (min ((h.b + 1) * 16) a.links) (omega (arith, f)) (omega arith) (omega (arith, f))

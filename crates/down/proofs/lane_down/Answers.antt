@@ -1,40 +1,30 @@
-use Prim.Native.Nat.{◌+◌, ◌-◌, min}
-use native.Mathlib.Omega.{arith}
-use mathlib.Core.Path.{◌≡◌, ap₂, ◌∙◌}
-use mathlib.Core.Bool.{◌||◌}
+use Rattle.std.proofs.Common.{◌≡◌, ap₂, ◌∙◌, ◌+◌, ◌-◌, ◌*◌, ◌||◌, min, arith}
+use Rattle.std.proofs.lemmas.List.{get_or-take, length-take-le}
 use Rattle.arrays.proofs.Loops.{any_none, any_block}
+use Rattle.down.proofs.Slices.{any_as, part_long, part_at}
 use Rattle.down.proofs.lane_down.Invariants.{bad_at}
 use Rattle.down.proofs.lane_down.Goals as goal
-use Rattle.down.proofs.lane_down.Goals.{else-i-flying, then-i-flying}
-
-pub lane_few-requires : goal.lane_few-requires
-lane_few-requires c = c.requires
 
 pub returns-then-flying-lt-BLOCK : goal.returns-then-flying-lt-BLOCK
-returns-then-flying-lt-BLOCK c = c.lane_few.ensures
+returns-then-flying-lt-BLOCK c =
+    let a = c.args in
+    c.lane_in.ensures ∙ any_as _ (bad_at a.lane.now a.live.now) _ a.flying (length-take-le a.flying a.lane.now (omega arith))
+    (λ i h. rw (get_or-take a.flying a.lane.now i 0 h))
 
-pub loop-i-init : goal.loop-i-init
-loop-i-init c =
+pub loop-b-init : goal.loop-b-init
+loop-b-init c =
     let z : min 0 c.args.flying ≡ 0 = omega arith in
     rw z (any_none _)
 
-pub lane_block-bad-requires : goal.lane_block-bad-requires
-lane_block-bad-requires c =
+pub loop-b-preserved : goal.loop-b-preserved
+loop-b-preserved c =
+    let h = c.loop-b in
     let a = c.args in
-    let b : c.if-i-flying.from ≡ min c.loop-i.i (a.flying - 16) = elim c.if-i-flying.branch [ then-i-flying w ↦ omega arith | else-i-flying w ↦ omega arith ] in
-    (omega (arith, b), λ j k. c.requires.1 (c.if-i-flying.from + j) (omega (arith, b)))
-
-pub loop-i-preserved : goal.loop-i-preserved
-loop-i-preserved c =
-    let h = c.loop-i in
-    let a = c.args in
-    let b : c.if-i-flying.from ≡ min h.i (a.flying - 16) = elim c.if-i-flying.branch [ then-i-flying w ↦ omega arith | else-i-flying w ↦ omega arith ] in
-    let here : min h.i a.flying ≡ h.i = omega arith in
-    ap₂ ◌||◌ (rw here at h.invariant) c.lane_block-bad.ensures
-    ∙ any_block (bad_at a.lane.now a.live.now) 16 c.if-i-flying.from h.i (min (h.i + 16) a.flying) (omega (arith, b)) (omega arith) (omega (arith, b))
-
-pub returns : goal.returns
-returns c =
-    let h = c.loop-i in
-    let e : min h.i c.args.flying ≡ c.args.flying = omega arith in
-    rw e at h.invariant
+    let from = c.min-from.result in
+    let f : from ≡ min (h.b * 16) (a.flying - 16) = c.min-from.ensures in
+    let here : min (h.b * 16) a.flying ≡ h.b * 16 = omega arith in
+    let bad = bad_at a.lane.now a.live.now in
+    let long = part_long 0 a.lane.now from 16 (omega (arith, f)) in
+    ap₂ ◌||◌ (rw here at h.invariant) (c.lane_in-bad.ensures ∙ any_as _ (λ j. bad (from + j)) _ 16 long
+    (λ j l. rw (part_at 0 a.lane.now from 16 j l)))
+    ∙ any_block bad 16 from (h.b * 16) (min ((h.b + 1) * 16) a.flying) (omega (arith, f)) (omega arith) (omega (arith, f))

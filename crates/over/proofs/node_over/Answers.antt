@@ -1,30 +1,23 @@
-use native.Mathlib.Omega.{arith}
-use mathlib.Core.Path.{◌≡◌, ◌∙◌}
-use mathlib.Core.Bool.{not}
-use lib.Dec.{leb, eqb}
-use lib.ListN.{get_or}
-use borrow.Author.Tests.{eq-eqb, ne_eqb, le-leb, lt-leb}
-use borrow.Author.Rules.{rules}
-use Rattle.arrays.proofs.Loops.{or_none, none_none, none_more, none_end}
+use Rattle.std.proofs.Common.{◌∙◌, ◌≡◌, ◌-◌, ◌<◌, not, leb, eqb, get_or, inl, inr, arith}
+use Rattle.std.proofs.lemmas.List.{get_or-take}
+use borrow.Author.Tests.{eq-eqb, ne_eqb, leb-true, leb-false}
+use Rattle.model.proofs.Below.{look}
+use Rattle.arrays.proofs.Loops.{or_none, none_none, none_more}
 use Rattle.over.proofs.node_over.Goals as goal
-use Rattle.over.proofs.node_over.Goals.{then-last-a, else-last-a}
 
-pub loop-x-init : goal.loop-x-init
-loop-x-init c = (search rules, none_none _)
+pub loop-a-init : goal.loop-a-init
+loop-a-init c = none_none _
 
-pub loop-x-preserved : goal.loop-x-preserved
-loop-x-preserved c =
-    let h = c.loop-x in
-    let n = c.args.nodes in
-    let a = get_or c.args.node.now h.x 0 in
-    let d = c.if-last-a.more in
-    let e : eqb d 0 ≡ not (leb n a) = elim c.if-last-a.branch [
-      | then-last-a w ↦ rw (ne_eqb d 0 (λ z. omega (arith, z)), le-leb n a (omega arith))
-      | else-last-a w ↦ rw (eq-eqb d 0 w.more-is, lt-leb n a (omega arith))
+pub loop-a-preserved : goal.loop-a-preserved
+loop-a-preserved c =
+    let h = c.loop-a in
+    let a = c.args in
+    let x = get_or a.node.now h.a-index 0 in
+    let more = c.saturating_sub-over.result in
+    let i : h.a-index < a.ends = omega arith in
+    let m : more ≡ x - (a.nodes - 1) = rw (get_or-take a.ends a.node.now h.a-index 0 i) at c.saturating_sub-over.ensures in
+    let e : eqb more 0 ≡ not (leb a.nodes x) = elim (look (leb a.nodes x)) [
+      | inl t ↦ rw (t, ne_eqb more 0 (λ z. omega (arith, z, m, leb-true a.nodes x t)))
+      | inr f ↦ rw (f, eq-eqb more 0 (omega (arith, m, leb-false a.nodes x f)))
     ] in
-    (search rules, or_none h.over d ∙ none_more _ h.x h.invariant.1 e)
-
-pub returns : goal.returns
-returns c =
-    let h = c.loop-x in
-    none_end _ h.x c.args.ends h.invariant.1 h.invariant.0 c.loop-x-test.false
+    or_none h.over more ∙ none_more _ h.a-index h.invariant e

@@ -1,16 +1,8 @@
-use borrow.Author.Rules.{rules}
-use Rattle.arrays.proofs.Loops.{any_none, any_more, any_end}
+use Rattle.std.proofs.Common.{rules, ◌∙◌, not, false, arith}
+use Rattle.over.proofs.Taken.{any_taken}
 use Rattle.over.proofs.some_down.Goals as goal
-
-pub loop-l-init : goal.loop-l-init
-loop-l-init c = (search rules, any_none _)
-
-pub loop-l-preserved : goal.loop-l-preserved
-loop-l-preserved c =
-    let h = c.loop-l in
-    (search rules, any_more _ h.l h.invariant.1)
 
 pub returns : goal.returns
 returns c =
-    let h = c.loop-l in
-    any_end _ h.l c.args.links h.invariant.1 h.invariant.0 c.loop-l-test.false
+    let a = c.args in
+    c.some.ensures not (λ x b h. search rules) ∙ any_taken not false a.live.now a.links (omega arith)

@@ -1,16 +1,8 @@
-use borrow.Author.Rules.{rules}
-use Rattle.arrays.proofs.Loops.{any_none, any_more, any_end}
+use Rattle.std.proofs.Common.{rules, ◌∙◌, ltb, arith}
+use Rattle.over.proofs.Taken.{any_taken}
 use Rattle.over.proofs.turns_over.Goals as goal
-
-pub loop-v-init : goal.loop-v-init
-loop-v-init c = (search rules, any_none _)
-
-pub loop-v-preserved : goal.loop-v-preserved
-loop-v-preserved c =
-    let h = c.loop-v in
-    (search rules, any_more _ h.v h.invariant.1)
 
 pub returns : goal.returns
 returns c =
-    let h = c.loop-v in
-    any_end _ h.v c.args.nodes h.invariant.1 h.invariant.0 c.loop-v-test.false
+    let a = c.args in
+    c.some.ensures (λ t. ltb a.events t) (λ t b h. search rules) ∙ any_taken (λ t. ltb a.events t) 0 a.turns.now a.nodes (omega arith)
