@@ -1,5 +1,5 @@
 -- The table's rows, made and read. Assumes nothing.
-use Prim.Native.Nat.{ℕ, zero, suc, ◌+◌, ◌*◌, ◌/◌, ◌≤◌, ◌<◌}
+use Prim.Native.Nat.{ℕ, zero, suc, ◌+◌, ◌-◌, ◌*◌, ◌/◌, ◌≤◌, ◌<◌}
 use native.Mathlib.Nat.{add-zero}
 use native.Mathlib.Numerals.{add-one}
 use native.Mathlib.Omega.{arith}
@@ -7,18 +7,17 @@ use native.Mathlib.Decide.{dec_lt}
 use mathlib.Core.Path.{◌≡◌, refl, sym, ap, ◌∙◌}
 use mathlib.Core.List.{List, [], ◌∷◌, ◌++◌, append-nil}
 use lib.ListN.{length, get_or, length-append, get_or-append, drop_of_length-le}
-use lib.Seq.{sets, get_or-append-add}
+use lib.Seq.{sets, length-sets, get_or-append-add}
+use borrow.Rule.Slice.PartMut.{put_mid}
 use borrow.Author.Tests.{lt-ltb, le-ltb}
 use Rattle.model.specs.Text.{digits}
 use Rattle.groups.proofs.Stores.{sets_append, sets_front}
 use Rattle.letters.specs.Digits.{last_digit, thousand, wide, table_size, front, back, row_of, rows_below, digit_rows, half_at}
+use Rattle.letters.proofs.Over.{part_stored}
 use Rattle.letters.proofs.Decimals.{one_digit, two_digits, three_digits}
 
 pub four_are : {a b c d a' b' c' d' : ℕ} → a ≡ a' → b ≡ b' → c ≡ c' → d ≡ d' → ◌≡◌ {A = List ℕ} (a ∷ b ∷ c ∷ d ∷ []) (a' ∷ b' ∷ c' ∷ d' ∷ [])
 four_are p q r s = rw (p, q, r, s)
-
-pub same_stores : (l : List ℕ) (at : ℕ) {out v w : List ℕ} → out ≡ sets l at w → w ≡ v → out ≡ sets l at v
-same_stores l at p q = p ∙ ap (sets l at) q
 
 -- ---- a row by how many digits the number has
 module _ (n : ℕ) where
@@ -170,13 +169,13 @@ pub small_one : (n after : ℕ) {d : ℕ} → n < 10 → d ≡ last_digit n → 
 small_one n after h e = ap (λ (x : List ℕ). x ++ after ∷ []) (one_digit n h) ∙ rw e
 
 -- ---- a row by its halves
-pub row_made : (l m out : List ℕ) (n : ℕ) {a b c : ℕ} → n < thousand → m ≡ sets l (wide * n) (front n)
-    → out ≡ sets m (wide * n + 4) (a ∷ b ∷ c ∷ 32 ∷ []) → a ≡ last_digit (n / 100) → b ≡ last_digit (n / 10) → c ≡ last_digit n
-    → out ≡ sets l (wide * n) (row_of n)
-row_made l m out n h p q x y z =
-    let at : wide * n + 4 ≡ wide * n + length (front n) = omega (arith, (front_is n h).four) in
-    q
-    ∙ ap (λ w. sets m (wide * n + 4) w) (four_are x y z refl)
-    ∙ ap (λ w. sets w (wide * n + 4) (back n)) p
+pub row_made : (l f b : List ℕ) (n : ℕ) → n < thousand → length l ≡ table_size → f ≡ front n → b ≡ back n
+    → put_mid (wide * n + 4) (wide * n + 8 - (wide * n + 4)) (put_mid (wide * n) (wide * n + 4 - wide * n) l f) b ≡ sets l (wide * n) (row_of n)
+row_made l f b n h size p q =
+    let four = (front_is n h).four in
+    let at : wide * n + 4 ≡ wide * n + length (front n) = omega arith in
+    let long = length-sets l (wide * n) (front n) in
+    ap (λ m. put_mid (wide * n + 4) (wide * n + 8 - (wide * n + 4)) m b) (part_stored l f (front n) (wide * n) _ (omega arith) (omega arith) p)
+    ∙ part_stored (sets l (wide * n) (front n)) b (back n) (wide * n + 4) _ (omega arith) (omega arith) q
     ∙ ap (λ i. sets (sets l (wide * n) (front n)) i (back n)) at
     ∙ sets_append (front n) (back n) l (wide * n)

@@ -1,19 +1,20 @@
 -- Stores over stores. Assumes nothing.
 use Prim.Native.Nat.{ℕ, suc, ◌+◌, ◌≤◌, ◌<◌}
-use native.Mathlib.Numerals.{add-one}
 use native.Mathlib.Omega.{arith}
 use mathlib.Core.Path.{◌≡◌, refl, sym, ap, ◌∙◌}
 use mathlib.Core.List.{List, [], ◌∷◌, ◌++◌}
-use lib.ListN.{length, set}
-use lib.Seq.{sets, set-set, set_comm}
+use lib.ListN.{length, set, take, drop}
+use lib.Seq.{sets, sets-eq, take-length, set-set, set_comm}
+use borrow.Rule.Slice.PartMut.{put_mid}
+use Rattle.std.proofs.lemmas.Slice.{put_mid-paste}
 use Rattle.groups.proofs.Stores.{sets_append}
 
-pub four_stores : (l : List ℕ) (at a b c d : ℕ)
-    → set (set (set (set l at a) (at + 1) b) (at + 2) c) (at + 3) d ≡ sets l at (a ∷ b ∷ c ∷ d ∷ [])
-four_stores l at a b c d =
-    let two : at + 2 ≡ suc (suc at) = omega arith in
-    let three : at + 3 ≡ suc (suc (suc at)) = omega arith in
-    rw (two, three, add-one)
+-- a part overwritten
+pub part_stored : (l new w : List ℕ) (at k : ℕ) → at + length w ≤ length l → k ≡ length w → new ≡ w → put_mid at k l new ≡ sets l at w
+part_stored l new w at k h n e =
+    put_mid-paste at k l new w (length w) e (sym n) refl
+    ∙ ap (λ x. take at l ++ x ++ drop (at + length w) l) (take-length w)
+    ∙ sym (sets-eq w l at h)
 
 set_before : (y l : List ℕ) (i j b : ℕ) → i < j → set (sets l j y) i b ≡ sets (set l i b) j y
 set_before [] l i j b h = refl

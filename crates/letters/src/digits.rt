@@ -4,7 +4,7 @@ ghost use Rattle.model.specs.Text.{digits};
 ghost use Rattle.letters.specs.Puts.{Room, Put};
 ghost use Rattle.letters.specs.Digits.{last_digit};
 
-use crate::words::byte;
+use crate::words::bytes;
 
 // The last digit of a number.
 pub fn digit(n: usize) -> u8
@@ -19,8 +19,8 @@ pub fn number(out: &mut [u8; model::TEXT_MOST], at: usize, n: usize) -> usize
     ensures { Put out.old at (digits n) result out.new }
 {
     if n < 10 {
-        return byte(out, at, digit(n));
+        return bytes(out, at, [digit(n)]);
     }
     let last = number(out, at, n / 10);
-    byte(out, last, digit(n))
+    bytes(out, last, [digit(n)])
 }

@@ -8,6 +8,6 @@ mod table;
 mod words;
 
 pub use digits::{digit, number};
-pub use numbers::{any, million, small, wide};
+pub use numbers::{any, million, small};
 pub use table::{TABLE, THOUSAND, rows};
-pub use words::{byte, two, word};
+pub use words::{bytes, word};

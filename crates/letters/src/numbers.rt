@@ -6,21 +6,7 @@ ghost use Rattle.letters.specs.Digits.{thousand, joined, table_size, half_at, di
 
 use crate::digits::{digit, number};
 use crate::table::{TABLE, WIDE};
-use crate::words::{byte, four, three, two};
-
-// A byte as a number of the text.
-fn plain(x: u8) -> usize
-    ensures { result ≡ x }
-{
-    x as usize
-}
-
-// A count as a number of the text.
-pub fn wide(x: u32) -> usize
-    ensures { result ≡ x }
-{
-    x as usize
-}
+use crate::words::bytes;
 
 // A number below a thousand.
 pub fn small(
@@ -34,13 +20,13 @@ pub fn small(
     ensures { Put out.old at (digits n ++ after ∷ []) result out.new }
 {
     if n < 10 {
-        return two(out, at, digit(n), after);
+        return bytes(out, at, [digit(n), after]);
     }
     let row = WIDE * n;
     if n < 100 {
-        return three(out, at, table[row], table[row + 1], after);
+        return bytes(out, at, [table[row], table[row + 1], after]);
     }
-    four(out, at, table[row], table[row + 1], table[row + 2], after)
+    bytes(out, at, [table[row], table[row + 1], table[row + 2], after])
 }
 
 // Half a row.
@@ -48,14 +34,13 @@ fn half(out: &mut [u8; model::TEXT_MOST], at: usize, table: &[u8; TABLE], from: 
     requires { Room out.old at (half_at table.now from) × (from + 4 ≤ table_size) }
     ensures { Put out.old at (half_at table.now from) result out.new }
 {
-    four(
-        out,
-        at,
+    let half = [
         table[from],
         table[from + 1],
         table[from + 2],
         table[from + 3],
-    )
+    ];
+    bytes(out, at, half)
 }
 
 // A number below a million, and a space: the second half goes over the end of the first, so no branch asks how long that is.
@@ -74,7 +59,7 @@ pub fn million(
     }
     let row = WIDE * thousands;
     half(out, at, table, row);
-    let count = plain(table[row + 3]);
+    let count = usize::from(table[row + 3]);
     half(out, at + count, table, WIDE * rest + 4)
 }
 
@@ -83,6 +68,6 @@ pub fn any(out: &mut [u8; model::TEXT_MOST], at: usize, n: u32) -> usize
     requires { Room out.old at (digits n ++ ascii " ") }
     ensures { Put out.old at (digits n ++ ascii " ") result out.new }
 {
-    let next = number(out, at, wide(n));
-    byte(out, next, b' ')
+    let next = number(out, at, n as usize);
+    bytes(out, next, [b' '])
 }

@@ -14,17 +14,17 @@ pub space_is : ascii " " ≡ 32 ∷ []
 unfolding ascii
 space_is = refl
 
-pub answer_one : (n : ℕ) {w d : ℕ} → n < 10 → w ≡ n → d ≡ last_digit w → digits n ++ ascii " " ≡ d ∷ 32 ∷ []
-answer_one n h p q = ap (λ x. digits n ++ x) space_is ∙ small_one n 32 h (q ∙ ap last_digit p)
+pub answer_one : (n : ℕ) {d : ℕ} → n < 10 → d ≡ last_digit n → digits n ++ ascii " " ≡ d ∷ 32 ∷ []
+answer_one n h q = ap (λ x. digits n ++ x) space_is ∙ small_one n 32 h q
 
 module _ (code : ℕ) where
   pub packet_some : (code ≡ events_most → ⊥) → packet_word code ++ ascii " " ≡ digits code ++ ascii " "
   unfolding packet_word
   packet_some n = rw (ne_eqb code events_most n)
 
-  pub packet_joined : {n : ℕ} → code < events_most → n ≡ code → packet_word code ++ ascii " " ≡ digits (joined (n / 1000) (n % 1000)) ++ ascii " "
-  packet_joined {n} h p =
-      let e : code ≡ joined (n / 1000) (n % 1000) = omega arith in
+  pub packet_joined : code < events_most → packet_word code ++ ascii " " ≡ digits (joined (code / 1000) (code % 1000)) ++ ascii " "
+  packet_joined h =
+      let e : code ≡ joined (code / 1000) (code % 1000) = omega arith in
       packet_some (λ z. omega (arith, z, h)) ∙ ap (λ m. digits m ++ ascii " ") e
 
   pub packet_none : code ≡ events_most → packet_word code ++ ascii " " ≡ 45 ∷ 32 ∷ []

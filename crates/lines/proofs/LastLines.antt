@@ -21,19 +21,17 @@ unfolding row tab
 spoilt_row place = refl
 
 module _ (n : Network) where
-  total_row : {a b c d : ℕ} → a ≡ n.admitted → b ≡ n.delivered → c ≡ n.lost → d ≡ n.stranded
-      → total_line (view n) ≡ row (ascii "total") (a ∷ b ∷ c ∷ d ∷ n.flying ∷ []) 5
+  total_row : total_line (view n) ≡ row (ascii "total") (n.admitted ∷ n.delivered ∷ n.lost ∷ n.stranded ∷ n.flying ∷ []) 5
   unfolding row tab
-  total_row p q r s =
-      rw (p, q, r, s)
-      (ap (λ m. line (ascii "total") (digits n.admitted ∷ digits n.delivered ∷ digits n.lost ∷ digits n.stranded ∷ digits m ∷ []))
-      (length-tab (packet_at n.number n.lane n.bit) n.flying))
+  total_row =
+      ap (λ m. line (ascii "total") (digits n.admitted ∷ digits n.delivered ∷ digits n.lost ∷ digits n.stranded ∷ digits m ∷ []))
+      (length-tab (packet_at n.number n.lane n.bit) n.flying)
 
   turns_row : turns_line (view n) ≡ row (ascii "turns") n.turns n.nodes
   unfolding row
   turns_row = ap (line (ascii "turns")) (tab_same _ _ n.nodes (λ v h. ap digits (used_in n.nodes 0 n.turns v h)))
 
-  pub ending_rows : {a b c d : ℕ} → a ≡ n.admitted → b ≡ n.delivered → c ≡ n.lost → d ≡ n.stranded
-      → ending_of (view n) ≡ row (ascii "total") (a ∷ b ∷ c ∷ d ∷ n.flying ∷ []) 5 ++ row (ascii "turns") n.turns n.nodes
+  pub ending_rows : ending_of (view n)
+      ≡ row (ascii "total") (n.admitted ∷ n.delivered ∷ n.lost ∷ n.stranded ∷ n.flying ∷ []) 5 ++ row (ascii "turns") n.turns n.nodes
   unfolding ending_of
-  ending_rows p q r s = ap₂ (λ x y. x ++ y) (total_row p q r s) turns_row
+  ending_rows = ap₂ (λ x y. x ++ y) total_row turns_row

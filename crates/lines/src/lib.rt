@@ -14,7 +14,7 @@ ghost use Rattle.letters.specs.Digits.{thousand, joined, digit_rows};
 ghost use Rattle.lines.specs.Codes.{code_line};
 ghost use Rattle.lines.specs.Lines.{row, ending_of};
 
-use letters::{TABLE, byte, million, number, wide, word};
+use letters::{TABLE, bytes, million, number, word};
 use network::Network;
 use parts::{answer, packet, way};
 
@@ -46,7 +46,7 @@ fn field(out: &mut [u8; model::TEXT_MOST], at: usize, n: usize) -> usize
     requires { Room out.old at (ascii " " ++ digits n) }
     ensures { Put out.old at (ascii " " ++ digits n) result out.new }
 {
-    let next = byte(out, at, b' ');
+    let next = bytes(out, at, [b' ']);
     number(out, next, n)
 }
 
@@ -56,13 +56,10 @@ fn row(out: &mut [u8; model::TEXT_MOST], at: usize, w: &[u8], list: &[usize]) ->
     ensures { Put out.old at (row w.now list.now (length list.now)) result out.new }
 {
     let mut next = word(out, at, w);
-    let mut i: usize = 0;
-    while i < list.len() {
-        let k = i;
-        i += 1;
-        next = field(out, next, list[k]);
+    for &n in list {
+        next = field(out, next, n);
     }
-    byte(out, next, b'\n')
+    bytes(out, next, [b'\n'])
 }
 
 // The only line where the header is refused, or the file too long.
@@ -70,8 +67,7 @@ pub fn refused(out: &mut [u8; model::TEXT_MOST], at: usize, answer: usize, place
     requires { Room out.old at (refused_line answer place) }
     ensures { Put out.old at (refused_line answer place) result out.new }
 {
-    let list = [answer, place];
-    row(out, at, b"refused", &list)
+    row(out, at, b"refused", &[answer, place])
 }
 
 // The turns stand in the record as they are, so no list is made of them.
@@ -85,13 +81,10 @@ fn turns(
     ensures { Put out.old at (row (ascii "turns") turns.now nodes) result out.new }
 {
     let mut next = word(out, at, b"turns");
-    let mut v: usize = 0;
-    while v < nodes {
-        let k = v;
-        v += 1;
-        next = field(out, next, wide(turns[k]));
+    for &n in &turns[..nodes] {
+        next = field(out, next, n as usize);
     }
-    byte(out, next, b'\n')
+    bytes(out, next, [b'\n'])
 }
 
 // The two last lines.
@@ -100,10 +93,10 @@ pub fn ending(out: &mut [u8; model::TEXT_MOST], at: usize, n: Network) -> usize
     ensures { Put out.old at (ending_of (view n)) result out.new }
 {
     let total = [
-        wide(n.admitted),
-        wide(n.delivered),
-        wide(n.lost),
-        wide(n.stranded),
+        n.admitted as usize,
+        n.delivered as usize,
+        n.lost as usize,
+        n.stranded as usize,
         n.flying,
     ];
     let next = row(out, at, b"total", &total);
@@ -115,7 +108,6 @@ pub fn spoilt(out: &mut [u8; model::TEXT_MOST], at: usize, place: usize, n: Netw
     requires { Room out.old at (spoilt_line (some place) ++ ending_of (view n)) × (n.nodes ≤ nodes_most) }
     ensures { Put out.old at (spoilt_line (some place) ++ ending_of (view n)) result out.new }
 {
-    let list = [SPOILT, place];
-    let next = row(out, at, b"spoilt", &list);
+    let next = row(out, at, b"spoilt", &[SPOILT, place]);
     ending(out, next, n)
 }

@@ -5,7 +5,7 @@ ghost use Rattle.letters.specs.Puts.{Room, Put};
 ghost use Rattle.letters.specs.Digits.{digit_rows};
 ghost use Rattle.lines.specs.Codes.{packet_word, way_word};
 
-use letters::{TABLE, THOUSAND, any, digit, million, small, two, wide, word};
+use letters::{TABLE, THOUSAND, any, bytes, digit, million, small};
 
 // An answer: nearly every one has one digit.
 pub(crate) fn answer(out: &mut [u8; model::TEXT_MOST], at: usize, n: u32) -> usize
@@ -13,7 +13,7 @@ pub(crate) fn answer(out: &mut [u8; model::TEXT_MOST], at: usize, n: u32) -> usi
     ensures { Put out.old at (digits n ++ ascii " ") result out.new }
 {
     if n < 10 {
-        return two(out, at, digit(wide(n)), b' ');
+        return bytes(out, at, [digit(n as usize), b' ']);
     }
     any(out, at, n)
 }
@@ -29,11 +29,11 @@ pub(crate) fn packet(
     ensures { Put out.old at (packet_word code ++ ascii " ") result out.new }
 {
     if code < model::EVENTS {
-        let n = wide(code);
+        let n = code as usize;
         return million(out, at, table, n / THOUSAND, n % THOUSAND);
     }
     if code == model::EVENTS {
-        return word(out, at, b"- ");
+        return bytes(out, at, *b"- ");
     }
     any(out, at, code)
 }
@@ -52,13 +52,13 @@ pub(crate) fn way(
         return small(out, at, table, code, b'\n');
     }
     if code == model::ENDS {
-        return word(out, at, b"in\n");
+        return bytes(out, at, *b"in\n");
     }
     if code == model::ENDS + 1 {
-        return word(out, at, b"lost\n");
+        return bytes(out, at, *b"lost\n");
     }
     if code == model::ENDS + 2 {
-        return word(out, at, b"end\n");
+        return bytes(out, at, *b"end\n");
     }
-    word(out, at, b"-\n")
+    bytes(out, at, *b"-\n")
 }

@@ -1,40 +1,30 @@
 -- Bursts whose calls are refused: those on a record that is not well formed, with 1, and any others. Assumes nothing.
-use Prim.Native.Nat.{ℕ, zero, suc, ◌+◌, ◌<◌}
+use Prim.Native.Nat.{ℕ, zero, suc, ◌+◌, ◌≤◌, ◌<◌}
 use native.Mathlib.Omega.{arith}
-use native.Mathlib.Numerals.{add-one}
 use mathlib.Core.Path.{◌≡◌, refl, sym, ap, ◌∙◌}
 use mathlib.Core.Bool.{false}
 use mathlib.Core.List.{List, ◌++◌}
 use lib.Dec.{eqb}
-use lib.ListN.{length, get_or, set, drop, length-set}
+use lib.ListN.{length, get_or, take, drop, replicate}
+use lib.Seq.{length-take-le}
 use borrow.Author.Tests.{eq-eqb, ne_eqb}
 use Rattle.model.specs.Limits.{ends_most, events_most}
-use Rattle.model.specs.Below.{any, tab}
+use Rattle.model.specs.Below.{any}
 use Rattle.model.specs.State.{State}
 use Rattle.model.specs.Formed.{well_formed}
 use Rattle.model.specs.Outcome.{Outcome, refuse}
 use Rattle.model.specs.Answers as answers
 use Rattle.model.proofs.Below.{clash, any_false}
-use Rattle.arrays.proofs.Below.{tab_same, any_never}
+use Rattle.arrays.proofs.Below.{tab_same, tab_replicate, any_never}
 use Rattle.steps.proofs.Calls.{call_not_formed, call_refused}
 use Rattle.notes.specs.Bursts.{calls, call_at, packet_code, way_code, filled, Lists}
-use Rattle.notes.proofs.Bursts.{fills, filled_at, calls_keep}
+use Rattle.notes.proofs.Bursts.{filled_at, calls_keep}
 
--- the first i entries of a list are one value, the others as they were
-pub record Same (v i : ℕ) (xs ys : List ℕ) : Type 0 where
-  pub all : ys ≡ filled (λ j. v) i xs
-  pub long : length ys ≡ length xs
-
-pub same_none : (v : ℕ) (xs : List ℕ) → Same v 0 xs xs
-unfolding tab
-same_none v xs = record { all = refl; long = refl }
-
-pub same_more : (v i : ℕ) (xs ys : List ℕ) → i < length xs → Same v i xs ys → Same v (i + 1) xs (set ys i v)
-same_more v i xs ys h s =
-    record {
-      all = ap (λ l. set l i v) s.all ∙ fills (λ j. v) i xs h ∙ ap (λ k. filled (λ j. v) k xs) (sym (add-one i));
-      long = length-set ys i v ∙ s.long;
-    }
+-- the first k entries of a list become one value, the others stay
+pub filled_one : (v k : ℕ) (xs ys : List ℕ) → k ≤ length xs → ys ≡ replicate (length (take k xs)) v → ys ++ drop k xs ≡ filled (λ i. v) k xs
+filled_one v k xs ys h e =
+    let n : length (take k xs) ≡ k = length-take-le k xs h in
+    ap (λ l. l ++ drop k xs) (e ∙ ap (λ m. replicate m v) n ∙ tab_replicate v k)
 
 filled_same : (f g : ℕ → ℕ) (k : ℕ) (xs : List ℕ) → ((i : ℕ) → f i ≡ g i) → filled f k xs ≡ filled g k xs
 filled_same f g k xs h = ap (λ l. l ++ drop k xs) (tab_same f g k (λ i l. h i))

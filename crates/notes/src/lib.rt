@@ -36,17 +36,11 @@ fn way_code(w: Went) -> usize
     }
 }
 
-fn lesser(a: usize, b: usize) -> usize
-    ensures { result ≡ least a b }
-{
-    if a < b { a } else { b }
-}
-
 // As many calls are made as the shortest of five lists holds.
 pub fn shortest(a: usize, b: usize, c: usize, d: usize, e: usize) -> usize
     ensures { result ≡ least a (least b (least c (least d e))) }
 {
-    lesser(a, lesser(b, lesser(c, lesser(d, e))))
+    a.min(b.min(c.min(d.min(e))))
 }
 
 // What call k gave, into the lists.
@@ -55,10 +49,8 @@ pub fn note(answers: &mut [u32], packets: &mut [u32], ways: &mut [usize], k: usi
     ensures { (answers.new ≡ set answers.old k r.answer) × (packets.new ≡ set packets.old k (packet_code r.handled)) × (ways.new ≡ set ways.old k (way_code r.went)) }
 {
     answers[k] = r.answer;
-    let handled = r.handled;
-    packets[k] = packet_code(handled);
-    let went = r.went;
-    ways[k] = way_code(went);
+    packets[k] = packet_code(r.handled);
+    ways[k] = way_code(r.went);
 }
 
 // Whether every call was refused: told by the first that was not, as a rule the first of all.
@@ -66,12 +58,10 @@ pub fn all_refused(answers: &[u32], count: usize) -> bool
     requires { count ≤ length answers.now }
     ensures { result ≡ not (any (λ i. eqb (get_or answers.now i 0) 0) count) }
 {
-    let mut i: usize = 0;
-    while i < count {
-        if answers[i] == 0 {
+    for &answer in &answers[..count] {
+        if answer == 0 {
             return false;
         }
-        i += 1;
     }
     true
 }
@@ -81,12 +71,7 @@ pub fn refuse_all(answers: &mut [u32], packets: &mut [u32], ways: &mut [usize], 
     requires { (count ≤ length answers.old) × (count ≤ length packets.old) × (count ≤ length ways.old) }
     ensures { (answers.new ≡ filled (λ i. 1) count answers.old) × (packets.new ≡ filled (λ i. events_most) count packets.old) × (ways.new ≡ filled (λ i. ends_most + 3) count ways.old) }
 {
-    let mut i: usize = 0;
-    while i < count {
-        let k = i;
-        i += 1;
-        answers[k] = NOT_FORMED;
-        packets[k] = model::EVENTS;
-        ways[k] = model::ENDS + 3;
-    }
+    answers[..count].fill(NOT_FORMED);
+    packets[..count].fill(model::EVENTS);
+    ways[..count].fill(model::ENDS + 3);
 }

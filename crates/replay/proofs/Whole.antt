@@ -48,14 +48,8 @@ module _ (file : List ℕ) where
     long h = say (too_long h) whole
 
     module _ (short : length file ≤ file_most) (r : Headed) (p : HeaderPost 0 (read_header file 0) r) where
-      pub no_header : {answer : ℕ} → answer ≡ r.answer → (r.answer ≡ answers.done → ⊥)
-          → Pending out 0 (drill_output file) out 0 (refused_line answer r.place)
-      no_header e n =
-          say
-          (by_header short
-          ∙ ap (text_from file) (refused_told file 0 r p n).0
-          ∙ ap (λ a. refused_line a r.place) (sym e))
-          whole
+      pub no_header : (r.answer ≡ answers.done → ⊥) → Pending out 0 (drill_output file) out 0 (refused_line r.answer r.place)
+      no_header n = say (by_header short ∙ ap (text_from file) (refused_told file 0 r p n).0) whole
 
       module _ (z : r.answer ≡ answers.done) where
         pub header : Pending out 0 (drill_output file) out 0 (text_of file r.next.at r.network)

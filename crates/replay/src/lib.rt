@@ -5,30 +5,21 @@ mod chunk;
 mod play;
 mod run;
 
-ghost use Rattle.std.specs.Prelude.{◌≡◌, length};
 ghost use Rattle.replay.specs.Texts.{TextPost};
 
 const DONE: u32 = 0;
-
-// The size of a part: a reference to an array does not tell it by itself.
-fn size(part: &[u8]) -> usize
-    ensures { result ≡ length part.now }
-{
-    part.len()
-}
 
 // The text of a file's bytes, at the front of a part that holds any text; the bytes after it stay.
 pub fn text(file: &[u8], out: &mut [u8; model::TEXT_MOST]) -> usize
     ensures { TextPost file.now out.old out.new result }
 {
-    size(out);
     if model::FILE < file.len() {
         return lines::refused(out, 0, lines::SPOILT, model::FILE);
     }
     let header = reader::header_of(file);
     let answer = header.answer;
     if answer != DONE {
-        return lines::refused(out, 0, letters::wide(answer), header.place);
+        return lines::refused(out, 0, answer as usize, header.place);
     }
     let next = header.next;
     let table = letters::rows();

@@ -34,19 +34,16 @@ fn lines<'a>(
     ensures { Put out.old at (code_lines answers.now packets.now ways.now (joined thousands rest) 0 count) result out.new }
 {
     let mut next = at;
-    let mut i: usize = 0;
-    while i < count {
-        let k = i;
-        i += 1;
+    for i in 0..count {
         next = event(
             out,
             next,
             table,
             thousands,
-            rest + k,
-            answers[k],
-            packets[k],
-            ways[k],
+            rest + i,
+            answers[i],
+            packets[i],
+            ways[i],
         );
     }
     next
@@ -88,6 +85,8 @@ pub(crate) fn play<'a>(
         &ways,
         kinds.len(),
     );
-    let network = burst.network;
-    Played { network, next }
+    Played {
+        network: burst.network,
+        next,
+    }
 }

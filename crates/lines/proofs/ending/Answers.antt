@@ -7,17 +7,17 @@ use Rattle.lines.proofs.ending.Goals as goal
 pub row-next-requires : goal.row-next-requires
 unfolding ascii
 row-next-requires c =
-    let rows = ending_rows c.args.n c.wide.ensures c.wide-2.ensures c.wide-3.ensures c.wide-4.ensures in
+    let rows = ending_rows c.args.n in
     room _ _ (say rows (begin c.requires.0))
 
 pub turns-requires : goal.turns-requires
 unfolding ascii
 turns-requires c =
-    let rows = ending_rows c.args.n c.wide.ensures c.wide-2.ensures c.wide-3.ensures c.wide-4.ensures in
+    let rows = ending_rows c.args.n in
     (room_all (step _ _ (say rows (begin c.requires.0)) c.row-next.ensures), c.requires.1)
 
 pub returns : goal.returns
 unfolding ascii
 returns c =
-    let rows = ending_rows c.args.n c.wide.ensures c.wide-2.ensures c.wide-3.ensures c.wide-4.ensures in
+    let rows = ending_rows c.args.n in
     last (step _ _ (say rows (begin c.requires.0)) c.row-next.ensures) c.turns.ensures

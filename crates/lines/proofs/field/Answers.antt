@@ -1,17 +1,18 @@
 -- The space, then the digits. Assumes nothing.
-use mathlib.Core.Path.{refl}
+use native.Mathlib.Omega.{arith}
+use mathlib.Core.List.{[], ◌∷◌}
 use Rattle.model.specs.Text.{ascii}
-use Rattle.letters.proofs.Pending.{begin, room_all, last, room_byte, step_byte}
+use Rattle.letters.proofs.Pending.{begin, room, step, room_all, last}
 use Rattle.lines.proofs.field.Goals as goal
 
-pub byte-next-requires : goal.byte-next-requires
+pub bytes-next-requires : goal.bytes-next-requires
 unfolding ascii
-byte-next-requires c = room_byte refl (begin c.requires)
+bytes-next-requires c = (omega arith, room (32 ∷ []) _ (begin c.requires))
 
 pub number-requires : goal.number-requires
 unfolding ascii
-number-requires c = room_all (step_byte refl (begin c.requires) c.byte-next.ensures)
+number-requires c = room_all (step (32 ∷ []) _ (begin c.requires) c.bytes-next.ensures)
 
 pub returns : goal.returns
 unfolding ascii
-returns c = last (step_byte refl (begin c.requires) c.byte-next.ensures) c.number.ensures
+returns c = last (step (32 ∷ []) _ (begin c.requires) c.bytes-next.ensures) c.number.ensures

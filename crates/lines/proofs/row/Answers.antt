@@ -10,26 +10,22 @@ word-next-requires c =
     let list = c.args.list.now in
     room_row c.args.w.now list (length list) (begin c.requires)
 
-pub loop-i-init : goal.loop-i-init
-loop-i-init c =
+pub loop-n-init : goal.loop-n-init
+loop-n-init c =
     let list = c.args.list.now in
-    (omega arith, begin (room_all (step_row c.args.w.now list (length list) (begin c.requires) c.word-next.ensures)))
+    begin (room_all (step_row c.args.w.now list (length list) (begin c.requires) c.word-next.ensures))
 
 pub field-next-requires : goal.field-next-requires
-field-next-requires c = room_number _ _ _ c.loop-i.invariant.1 c.loop-i-test.true refl
+field-next-requires c = room_number _ _ _ c.loop-n.invariant (omega arith) refl
 
-pub loop-i-smaller : goal.loop-i-smaller
-loop-i-smaller c = omega (arith, c.loop-i-test.true)
+pub loop-n-preserved : goal.loop-n-preserved
+loop-n-preserved c = step_number _ _ _ c.loop-n.invariant (omega arith) refl c.field-next.ensures
 
-pub loop-i-preserved : goal.loop-i-preserved
-loop-i-preserved c =
-    (omega (arith, c.loop-i-test.true), step_number _ _ _ c.loop-i.invariant.1 c.loop-i-test.true refl c.field-next.ensures)
-
-pub byte-requires : goal.byte-requires
-byte-requires c = room_over _ _ _ c.loop-i.invariant.1 c.loop-i-test.false
+pub bytes-requires : goal.bytes-requires
+bytes-requires c = (omega arith, room_over _ _ _ c.loop-n.invariant (omega arith))
 
 pub returns : goal.returns
 returns c =
     let list = c.args.list.now in
     last (step_row c.args.w.now list (length list) (begin c.requires) c.word-next.ensures)
-    (last_over _ _ _ c.loop-i.invariant.1 c.loop-i-test.false c.byte.ensures)
+    (last_over _ _ _ c.loop-n.invariant (omega arith) c.bytes.ensures)

@@ -1,4 +1,5 @@
 use native.Mathlib.Omega.{arith}
+use Rattle.std.proofs.lemmas.List.{get_or-take}
 use Rattle.model.specs.Text.{ascii}
 use Rattle.letters.proofs.Pending.{begin, room_all, last}
 use Rattle.lines.proofs.LineParts.{room_row, step_row, room_number, step_number, room_over, last_over}
@@ -8,28 +9,21 @@ pub word-next-requires : goal.word-next-requires
 unfolding ascii
 word-next-requires c = room_row (ascii "turns") c.args.turns.now c.args.nodes (begin c.requires.0)
 
-pub loop-v-init : goal.loop-v-init
+pub loop-n-init : goal.loop-n-init
 unfolding ascii
-loop-v-init c =
-    (omega arith, begin (room_all (step_row (ascii "turns") c.args.turns.now c.args.nodes (begin c.requires.0) c.word-next.ensures)))
+loop-n-init c = begin (room_all (step_row (ascii "turns") c.args.turns.now c.args.nodes (begin c.requires.0) c.word-next.ensures))
 
 pub field-next-requires : goal.field-next-requires
-field-next-requires c = room_number _ _ _ c.loop-v.invariant.1 c.loop-v-test.true c.wide.ensures
+field-next-requires c = room_number _ _ _ c.loop-n.invariant (omega arith) (get_or-take c.args.nodes c.args.turns.now c.loop-n.n-index 0 (omega arith))
 
-pub loop-v-smaller : goal.loop-v-smaller
-loop-v-smaller c = omega (arith, c.loop-v-test.true)
+pub loop-n-preserved : goal.loop-n-preserved
+loop-n-preserved c = step_number _ _ _ c.loop-n.invariant (omega arith) (get_or-take c.args.nodes c.args.turns.now c.loop-n.n-index 0 (omega arith)) c.field-next.ensures
 
-pub loop-v-preserved : goal.loop-v-preserved
-loop-v-preserved c = (
-  omega (arith, c.loop-v-test.true),
-  step_number _ _ _ c.loop-v.invariant.1 c.loop-v-test.true c.wide.ensures c.field-next.ensures,
-)
-
-pub byte-requires : goal.byte-requires
-byte-requires c = room_over _ _ _ c.loop-v.invariant.1 c.loop-v-test.false
+pub bytes-requires : goal.bytes-requires
+bytes-requires c = (omega arith, room_over _ _ _ c.loop-n.invariant (omega arith))
 
 pub returns : goal.returns
 unfolding ascii
 returns c =
     last (step_row (ascii "turns") c.args.turns.now c.args.nodes (begin c.requires.0) c.word-next.ensures)
-    (last_over _ _ _ c.loop-v.invariant.1 c.loop-v-test.false c.byte.ensures)
+    (last_over _ _ _ c.loop-n.invariant (omega arith) c.bytes.ensures)

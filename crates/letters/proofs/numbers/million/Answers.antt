@@ -27,7 +27,7 @@ overflow_add-at c =
       fits = omega (
         arith,
         second_fits pre.1 c.args.thousands c.args.rest c.if-thousands-eq0.false pre.2 pre.3 pre.0 c.half.ensures
-            c.plain-count.ensures,
+            c.from-count.ensures,
       );
     }
 
@@ -35,7 +35,7 @@ pub half-requires-2 : goal.half-requires-2
 half-requires-2 c =
     let pre = c.requires in (
       second_room pre.1 c.args.thousands c.args.rest c.if-thousands-eq0.false pre.2 pre.3 pre.0 c.half.ensures
-          c.plain-count.ensures,
+          c.from-count.ensures,
       omega (arith, pre.3),
     )
 
@@ -43,4 +43,4 @@ pub returns : goal.returns
 returns c =
     let pre = c.requires in
     both_put pre.1 c.args.thousands c.args.rest c.if-thousands-eq0.false pre.2 pre.3 pre.0 c.half.ensures
-    c.plain-count.ensures c.half-2.ensures
+    c.from-count.ensures c.half-2.ensures

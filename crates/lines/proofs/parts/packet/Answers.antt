@@ -5,23 +5,22 @@ use Rattle.lines.proofs.CodeWords.{packet_joined, packet_none, packet_some}
 use Rattle.lines.proofs.parts.packet.Goals as goal
 
 pub million-requires : goal.million-requires
-million-requires c =
-    let n = c.wide-n.ensures in (
-      room_all (say (packet_joined c.args.code c.if-code-lt-EVENTS.true n) (begin c.requires.0)),
-      c.requires.1,
-      omega (arith, c.if-code-lt-EVENTS.true, n),
-      omega arith,
-    )
+million-requires c = (
+  room_all (say (packet_joined c.args.code c.if-code-lt-EVENTS.true) (begin c.requires.0)),
+  c.requires.1,
+  omega (arith, c.if-code-lt-EVENTS.true),
+  omega arith,
+)
 
 pub returns-then-code-lt-EVENTS : goal.returns-then-code-lt-EVENTS
 returns-then-code-lt-EVENTS c =
-    last (say (packet_joined c.args.code c.if-code-lt-EVENTS.true c.wide-n.ensures) (begin c.requires.0)) c.million.ensures
+    last (say (packet_joined c.args.code c.if-code-lt-EVENTS.true) (begin c.requires.0)) c.million.ensures
 
-pub word-requires : goal.word-requires
-word-requires c = room_all (say (packet_none c.args.code c.if-code-eq-EVENTS.true) (begin c.requires.0))
+pub bytes-requires : goal.bytes-requires
+bytes-requires c = (omega arith, room_all (say (packet_none c.args.code c.if-code-eq-EVENTS.true) (begin c.requires.0)))
 
 pub returns-then-code-eq-EVENTS : goal.returns-then-code-eq-EVENTS
-returns-then-code-eq-EVENTS c = last (say (packet_none c.args.code c.if-code-eq-EVENTS.true) (begin c.requires.0)) c.word.ensures
+returns-then-code-eq-EVENTS c = last (say (packet_none c.args.code c.if-code-eq-EVENTS.true) (begin c.requires.0)) c.bytes.ensures
 
 pub any-requires : goal.any-requires
 any-requires c = room_all (say (packet_some c.args.code c.if-code-eq-EVENTS.false) (begin c.requires.0))

@@ -11,30 +11,30 @@ small-requires c =
 pub returns-then-code-lt-ENDS : goal.returns-then-code-lt-ENDS
 returns-then-code-lt-ENDS c = last (say (way_lane c.args.code c.if-code-lt-ENDS.true) (begin c.requires.0)) c.small.ensures
 
-pub word-requires : goal.word-requires
-word-requires c = room_all (say (way_in c.args.code c.if-code-eq-ENDS.true) (begin c.requires.0))
+pub bytes-requires : goal.bytes-requires
+bytes-requires c = (omega arith, room_all (say (way_in c.args.code c.if-code-eq-ENDS.true) (begin c.requires.0)))
 
 pub returns-then-code-eq-ENDS : goal.returns-then-code-eq-ENDS
-returns-then-code-eq-ENDS c = last (say (way_in c.args.code c.if-code-eq-ENDS.true) (begin c.requires.0)) c.word.ensures
+returns-then-code-eq-ENDS c = last (say (way_in c.args.code c.if-code-eq-ENDS.true) (begin c.requires.0)) c.bytes.ensures
 
-pub word-requires-then-code : goal.word-requires-then-code
-word-requires-then-code c = room_all (say (way_lost c.args.code c.if-code.true) (begin c.requires.0))
+pub bytes-requires-then-code : goal.bytes-requires-then-code
+bytes-requires-then-code c = (omega arith, room_all (say (way_lost c.args.code c.if-code.true) (begin c.requires.0)))
 
 pub returns-then-code : goal.returns-then-code
-returns-then-code c = last (say (way_lost c.args.code c.if-code.true) (begin c.requires.0)) c.word-then-code.ensures
+returns-then-code c = last (say (way_lost c.args.code c.if-code.true) (begin c.requires.0)) c.bytes-then-code.ensures
 
-pub word-requires-then-code-2 : goal.word-requires-then-code-2
-word-requires-then-code-2 c = room_all (say (way_end c.args.code c.if-code-2.true) (begin c.requires.0))
+pub bytes-requires-then-code-2 : goal.bytes-requires-then-code-2
+bytes-requires-then-code-2 c = (omega arith, room_all (say (way_end c.args.code c.if-code-2.true) (begin c.requires.0)))
 
 pub returns-then-code-2 : goal.returns-then-code-2
-returns-then-code-2 c = last (say (way_end c.args.code c.if-code-2.true) (begin c.requires.0)) c.word-then-code-2.ensures
+returns-then-code-2 c = last (say (way_end c.args.code c.if-code-2.true) (begin c.requires.0)) c.bytes-then-code-2.ensures
 
-pub word-requires-2 : goal.word-requires-2
-word-requires-2 c =
+pub bytes-requires-2 : goal.bytes-requires-2
+bytes-requires-2 c =
     let none = way_none c.args.code c.if-code-lt-ENDS.false c.if-code-eq-ENDS.false c.if-code.false c.if-code-2.false in
-    room_all (say none (begin c.requires.0))
+    (omega arith, room_all (say none (begin c.requires.0)))
 
 pub returns : goal.returns
 returns c =
     let none = way_none c.args.code c.if-code-lt-ENDS.false c.if-code-eq-ENDS.false c.if-code.false c.if-code-2.false in
-    last (say none (begin c.requires.0)) c.word-2.ensures
+    last (say none (begin c.requires.0)) c.bytes-2.ensures

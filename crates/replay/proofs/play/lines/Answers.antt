@@ -7,33 +7,27 @@ use Rattle.replay.proofs.play.lines.Goals as goal
 pub loop-i-init : goal.loop-i-init
 loop-i-init c =
     let a = c.args in
-    (omega arith, say (lines_all a.answers.now a.packets.now a.ways.now (joined a.thousands a.rest) a.count) (begin c.requires.0))
+    say (lines_all a.answers.now a.packets.now a.ways.now (joined a.thousands a.rest) a.count) (begin c.requires.0)
 
 pub event-next-requires : goal.event-next-requires
 event-next-requires c =
     let a = c.args in
     let k = c.loop-i.i in
     let more = c.loop-i-test.true in (
-      room_line a.answers.now a.packets.now a.ways.now a.thousands a.rest k a.count more c.loop-i.invariant.1,
+      room_line a.answers.now a.packets.now a.ways.now a.thousands a.rest k a.count more c.loop-i.invariant,
       c.requires.1,
       c.requires.2,
       omega (arith, c.requires.3, more),
     )
 
-pub loop-i-smaller : goal.loop-i-smaller
-loop-i-smaller c = omega (arith, c.loop-i-test.true)
-
 pub loop-i-preserved : goal.loop-i-preserved
 loop-i-preserved c =
     let a = c.args in
     let k = c.loop-i.i in
-    let more = c.loop-i-test.true in (
-      omega (arith, more),
-      step_line a.answers.now a.packets.now a.ways.now a.thousands a.rest k a.count more c.loop-i.invariant.1
-          c.event-next.ensures,
-    )
+    let more = c.loop-i-test.true in
+    step_line a.answers.now a.packets.now a.ways.now a.thousands a.rest k a.count more c.loop-i.invariant c.event-next.ensures
 
 pub returns : goal.returns
 returns c =
     let a = c.args in
-    finish (lines_none a.answers.now a.packets.now a.ways.now (joined a.thousands a.rest) c.loop-i.i a.count c.loop-i-test.false) c.loop-i.invariant.1
+    finish (lines_none a.answers.now a.packets.now a.ways.now (joined a.thousands a.rest) c.loop-i.i a.count c.loop-i-test.false) c.loop-i.invariant

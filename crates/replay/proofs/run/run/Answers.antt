@@ -5,7 +5,7 @@ use borrow.Author.Rules.{rules}
 use Rattle.letters.specs.Digits.{joined}
 use Rattle.replay.specs.Chunks.{Stopped}
 use Rattle.letters.proofs.Pending.{room_all, last}
-use Rattle.replay.proofs.Running.{starts, recount, kinds_lent, arguments_lent, few_kinds, as_many, ends, spoils, few_nodes, within, chunk_room, goes_on}
+use Rattle.replay.proofs.Running.{starts, recount, few_kinds, as_many, ends, spoils, few_nodes, within, chunk_room, goes_on}
 use Rattle.replay.proofs.run.run.Goals as goal
 
 pub loop-out-init : goal.loop-out-init
@@ -16,22 +16,6 @@ pub gather-gathered-requires : goal.gather-gathered-requires
 gather-gathered-requires c =
     let inv = c.loop-out.invariant in
     (inv.0.inside, omega arith, inv.2, inv.3)
-
-pub slice_bounds-kinds-end : goal.slice_bounds-kinds-end
-slice_bounds-kinds-end c =
-    let g = c.gather-gathered.ensures.gathers in
-    omega (arith, g.few, g.short, g.kinds_size)
-
-pub slice_bounds-play-end : goal.slice_bounds-play-end
-slice_bounds-play-end c = kinds_lent c.gather-gathered.ensures.gathers
-
-pub slice_bounds-arguments-end : goal.slice_bounds-arguments-end
-slice_bounds-arguments-end c =
-    let g = c.gather-gathered.ensures.gathers in
-    omega (arith, g.few, g.short, g.arguments_size)
-
-pub slice_bounds-play-end-in-loop-out : goal.slice_bounds-play-end-in-loop-out
-slice_bounds-play-end-in-loop-out c = arguments_lent c.gather-gathered.ensures.gathers
 
 pub play-played-requires : goal.play-played-requires
 play-played-requires c =
@@ -46,9 +30,6 @@ play-played-requires c =
       few = omega (arith, few_kinds g, inv.1);
       room = chunk_room run g;
     }
-
-pub overflow_add-thousands : goal.overflow_add-thousands
-overflow_add-thousands c = record { fits = omega (arith, within c.loop-out.invariant.0) }
 
 pub loop-out-smaller : goal.loop-out-smaller
 loop-out-smaller c =
