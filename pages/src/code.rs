@@ -37,9 +37,12 @@ pub fn handed_on<'a>(text: &'a str, name: &str) -> Option<&'a str> {
 
 /// A function of a type: in the lines of its `impl`, up to the closing brace.
 pub fn has_method(text: &str, owner: &str, name: &str) -> bool {
-    let start = format!("impl {owner} {{");
+    let starts = [
+        format!("impl {owner} {{"),
+        format!("impl<'a> {owner}<'a> {{"),
+    ];
     text.lines()
-        .skip_while(|line| *line != start)
+        .skip_while(|line| starts.iter().all(|start| start != line))
         .take_while(|line| *line != "}")
         .filter_map(|line| line.strip_prefix("    "))
         .any(|line| declared(line) == Some(name))

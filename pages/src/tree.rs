@@ -66,14 +66,20 @@ impl Tree {
         }
     }
 
+    /// The module from which a crate's root hands a name on.
+    fn handed_on(&self, owner: &str, root: &str, name: &str) -> Option<String> {
+        let module = code::handed_on(root, name)?;
+        self.source(owner, Some(module))
+    }
+
     fn has_code(&self, owner: &str, path: &[&str]) -> bool {
         let Some(root) = self.source(owner, None) else {
             return false;
         };
         match *path {
             [name] if code::declares(&root, name) => true,
-            [name] => code::handed_on(&root, name)
-                .and_then(|module| self.source(owner, Some(module)))
+            [name] => self
+                .handed_on(owner, &root, name)
                 .is_some_and(|text| code::declares(&text, name)),
             [first, name] => match self.source(owner, Some(first)) {
                 Some(module) => code::declares(&module, name),

@@ -2,7 +2,7 @@
 use crate::drawn::drawn;
 use crate::file::{File, ROOM, blank, changed, cut, with_byte};
 use crate::number::narrow8;
-use crate::read::{After, event_line, file_line, header_line};
+use crate::read::{event_line, file_line, header_line};
 use crate::readings::argument;
 use crate::writings::{case_into, event_into};
 use std::io::Result;
@@ -40,7 +40,7 @@ fn read_events(out: &impl Print, f: File, from: usize) -> Result<()> {
     let mut left = ROOM;
     while 0 < left {
         left -= 1;
-        let After::At(next) = event_line(out, f, at)? else {
+        let Some(next) = event_line(out, f, at)? else {
             return Ok(());
         };
         at = next;
@@ -50,7 +50,7 @@ fn read_events(out: &impl Print, f: File, from: usize) -> Result<()> {
 
 fn read_back(out: &impl Print, f: File) -> Result<()> {
     file_line(out, f)?;
-    let After::At(next) = header_line(out, f, 0)? else {
+    let Some(next) = header_line(out, f, 0)? else {
         return Ok(());
     };
     read_events(out, f, next)

@@ -66,9 +66,9 @@ pub(crate) fn cut(f: File, length: usize) -> File {
 // The bytes of a number behind what stands.
 pub(crate) fn with_number(f: File, value: usize) -> File {
     match drillfile::split(narrow(value)) {
-        Groups::One(a) => with_byte(f, a),
-        Groups::Two(a, b) => with_byte(with_byte(f, a), b),
-        Groups::Three(a, b, c) => with_byte(with_byte(with_byte(f, a), b), c),
-        Groups::TooLarge => f,
+        Some(Groups::One(a)) => with_byte(f, a),
+        Some(Groups::Two(a, b)) => with_byte(with_byte(f, a), b),
+        Some(Groups::Three(a, b, c)) => with_byte(with_byte(with_byte(f, a), b), c),
+        None => f,
     }
 }

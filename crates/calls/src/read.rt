@@ -1,16 +1,9 @@
 // The line of a file, and of each reading from it.
 use crate::file::{File, front};
 use crate::line::{end, field, word};
-use drillfile::{Cursor, Got, Number};
+use drillfile::{Cursor, Got};
 use std::io::Result;
 use sums::{of_bytes, of_record, wide};
-
-// The position after what was read, where reading goes on.
-#[derive(Clone, Copy)]
-pub(crate) enum After {
-    At(usize),
-    Nothing,
-}
 
 pub(crate) fn file_line(out: &impl Print, f: File) -> Result<()> {
     word(out, b"b")?;
@@ -24,50 +17,47 @@ pub(crate) fn number_line(out: &impl Print, f: File, position: usize) -> Result<
     word(out, b"n")?;
     field(out, position)?;
     match r {
-        Number::Value(value, next) => {
+        Ok(number) => {
             word(out, b" 0 0")?;
-            field(out, wide(value))?;
-            field(out, next)?;
+            field(out, wide(number.value))?;
+            field(out, number.next)?;
         }
-        Number::Spoilt(place) => {
+        Err(spoilt) => {
             word(out, b" 11")?;
-            field(out, place)?;
+            field(out, spoilt.place)?;
             word(out, b" - -")?;
         }
     }
     end(out)
 }
 
-// The fields of an event that was read.
-fn got_fields(out: &impl Print, got: Got) -> Result<After> {
-    match got {
-        Got::Event {
-            kind,
-            argument,
-            next,
-        } => {
+// The fields of an event that was read, and the position after it; none where nothing is left to read.
+fn got_fields(out: &impl Print, got: Got) -> Result<Option<usize>> {
+    let next = got.next.at;
+    match got.event {
+        Ok(Some(event)) => {
             word(out, b" 0 0")?;
-            field(out, wide(kind))?;
-            field(out, wide(argument))?;
-            field(out, next.at)?;
-            Ok(After::At(next.at))
+            field(out, wide(event.kind))?;
+            field(out, wide(event.argument))?;
+            field(out, next)?;
+            Ok(Some(next))
         }
-        Got::End(next) => {
+        Ok(None) => {
             word(out, b" 0 0 - -")?;
-            field(out, next.at)?;
-            Ok(After::Nothing)
+            field(out, next)?;
+            Ok(None)
         }
-        Got::Spoilt(place, next) => {
+        Err(spoilt) => {
             word(out, b" 11")?;
-            field(out, place)?;
+            field(out, spoilt.place)?;
             word(out, b" - -")?;
-            field(out, next.at)?;
-            Ok(After::Nothing)
+            field(out, next)?;
+            Ok(None)
         }
     }
 }
 
-pub(crate) fn event_line(out: &impl Print, f: File, position: usize) -> Result<After> {
+pub(crate) fn event_line(out: &impl Print, f: File, position: usize) -> Result<Option<usize>> {
     let got = drillfile::read_event(front(&f.bytes, f.length), Cursor { at: position });
     word(out, b"e")?;
     field(out, position)?;
@@ -76,24 +66,25 @@ pub(crate) fn event_line(out: &impl Print, f: File, position: usize) -> Result<A
     Ok(after)
 }
 
-// Nothing is read after a refused header.
-fn after_header(out: &impl Print, answer: u32, next: usize) -> Result<After> {
-    field(out, next)?;
-    if answer == 0 {
-        return Ok(After::At(next));
-    }
-    Ok(After::Nothing)
-}
-
-pub(crate) fn header_line(out: &impl Print, f: File, position: usize) -> Result<After> {
+pub(crate) fn header_line(out: &impl Print, f: File, position: usize) -> Result<Option<usize>> {
     let h = drillfile::read_header(front(&f.bytes, f.length), Cursor { at: position });
     let record = h.network;
-    let next = h.next;
+    let next = h.next.at;
     word(out, b"r")?;
     field(out, position)?;
-    field(out, wide(h.answer))?;
-    field(out, h.place)?;
-    let after = after_header(out, h.answer, next.at)?;
+    // nothing is read after a refused header
+    let after = match h.outcome {
+        Ok(()) => {
+            word(out, b" 0 0")?;
+            Some(next)
+        }
+        Err(refusal) => {
+            field(out, wide(refusal.answer()))?;
+            field(out, refusal.place())?;
+            None
+        }
+    };
+    field(out, next)?;
     field(out, of_record(record))?;
     end(out)?;
     Ok(after)

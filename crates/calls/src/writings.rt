@@ -3,6 +3,7 @@ use crate::drawn::{Case, drawn};
 use crate::file::{ROOM, blank};
 use crate::line::{end, field, word};
 use crate::rows::{COUNT, list, number};
+use drillfile::Refusal;
 use std::io::Result;
 use sums::{double, least, less_one, of_bytes, plus, wide};
 
@@ -23,6 +24,14 @@ const ARGUMENTS: [u32; 10] = [
 
 const LENT: [usize; 3] = [0, 3, 520];
 
+// The answer, the place and the count of a writing.
+fn told(w: std::result::Result<usize, Refusal>) -> (u32, usize, usize) {
+    match w {
+        Ok(count) => (0, 0, count),
+        Err(refusal) => (refusal.answer(), refusal.place(), 0),
+    }
+}
+
 // An event is written into a part, its line printed, and the count of its bytes given.
 pub(crate) fn event_into(
     out: &impl Print,
@@ -30,16 +39,16 @@ pub(crate) fn event_into(
     kind: u32,
     argument: u32,
 ) -> Result<usize> {
-    let w = drillfile::write_event(part, kind, argument);
+    let (answer, _, count) = told(drillfile::write_event(part, kind, argument));
     word(out, b"w")?;
     field(out, wide(kind))?;
     field(out, wide(argument))?;
     field(out, part.len())?;
-    field(out, wide(w.answer))?;
-    field(out, w.count)?;
+    field(out, wide(answer))?;
+    field(out, count)?;
     field(out, of_bytes(part))?;
     end(out)?;
-    Ok(w.count)
+    Ok(count)
 }
 
 fn header_into(
@@ -49,18 +58,18 @@ fn header_into(
     destination: usize,
     list: &[u32],
 ) -> Result<usize> {
-    let w = drillfile::write_header(part, nodes, destination, list);
+    let (answer, place, count) = told(drillfile::write_header(part, nodes, destination, list));
     word(out, b"h")?;
     field(out, nodes)?;
     field(out, destination)?;
     field(out, list.len())?;
     field(out, part.len())?;
-    field(out, wide(w.answer))?;
-    field(out, w.place)?;
-    field(out, w.count)?;
+    field(out, wide(answer))?;
+    field(out, place)?;
+    field(out, count)?;
     field(out, of_bytes(part))?;
     end(out)?;
-    Ok(w.count)
+    Ok(count)
 }
 
 fn used(list: &[u32], length: usize) -> &[u32] {

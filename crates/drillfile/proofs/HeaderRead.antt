@@ -2,41 +2,85 @@
 use Prim.Native.Nat.{ℕ, ◌*◌, min}
 use native.Mathlib.Omega.{arith}
 use native.Mathlib.Decide.{dec_le}
-use mathlib.Core.Path.{◌≡◌, refl, sym, ap, ◌∙◌}
-use mathlib.Core.Bool.{true, false}
+use mathlib.Core.Path.{◌≡◌, refl, sym, ap, ◌∙◌, subst}
+use mathlib.Core.Logic.{◌⊎◌, inl, inr}
+use mathlib.Core.Bool.{Bool, true, false}
 use mathlib.Core.List.{List, []}
+use lib.Dec.{ltb}
 use lib.ListN.{length, drop_of_length-le}
 use borrow.Author.Tests.{eq-eqb, ne_eqb}
 use Rattle.model.specs.Answers as answers
 use Rattle.model.specs.Formed.{sized}
-use Rattle.model.specs.Opening.{open_from}
+use Rattle.model.specs.Opening.{Opening, links_in, holds_closed_walk, first_bad_link, open_from}
 use Rattle.model.specs.Number.{Read, had, refused, read_number}
 use Rattle.model.specs.File.{Header, accepted, read_numbers, read_header}
-use Rattle.model.proofs.Opening.{tested}
+use Rattle.model.proofs.Below.{look}
+use Rattle.model.proofs.Opening.{bad_sizes}
 use Rattle.network.specs.declared.opening.Opened.{Opened}
 use Rattle.network.specs.Opening.{OpenPost}
 use Rattle.network.proofs.Filled.{lone_view}
 use Rattle.entries.specs.declared.answers.Cursor.{Cursor}
+use Rattle.entries.specs.declared.answers.Refusal.{Refusal}
+use Rattle.entries.specs.declared.answers.Refusal.TheVariants.{BadSizes, BadLink, ClosedWalk, NoSuch, Spoilt, TooShort}
+use Rattle.entries.specs.Outcomes.{answer_of, place_of}
 use Rattle.drillfile.specs.declared.answers.Headed.{Headed}
-use Rattle.drillfile.specs.Headers.{header_of, HeaderPost, refused_header, from_links}
+use Rattle.drillfile.specs.Headers.{header_of, OpeningAnswer, HeaderPost, refused_header, from_links}
+use Rattle.std.specs.Prelude.{Ok, Err}
+
+-- ---- openings
+-- their answers, each with its place
+module _ (nodes destination : ℕ) (list : List ℕ) where
+  abbrev bad_link : Bool
+  bad_link = ltb (first_bad_link nodes list) (links_in list)
+
+  abbrev ring : Bool
+  ring = holds_closed_walk nodes list
+
+  answered : OpeningAnswer (open_from nodes destination list).answer (open_from nodes destination list).place
+  unfolding open_from
+  answered = go (look (bad_sizes nodes destination list)) (look bad_link) (look ring)
+    where
+      go : (bad_sizes nodes destination list ≡ true) ⊎ (bad_sizes nodes destination list ≡ false)
+          → (bad_link ≡ true) ⊎ (bad_link ≡ false)
+          → (ring ≡ true) ⊎ (ring ≡ false)
+          → OpeningAnswer (open_from nodes destination list).answer (open_from nodes destination list).place
+      go (inl s) l w = rw s (inr (inl (refl, refl)))
+      go (inr s) (inl l) w = rw (s, l) (inr (inr (inl refl)))
+      go (inr s) (inr l) (inl w) = rw (s, l, w) (inr (inr (inr (refl, refl))))
+      go (inr s) (inr l) (inr w) = rw (s, l, w) (inl (refl, refl))
+
+  pub opening_answers : (o : Opened) → OpenPost nodes destination list o → OpeningAnswer o.answer o.place
+  opening_answers o p = subst (λ (x : Opening). OpeningAnswer x.answer x.place) (sym p.outcome) answered
 
 -- ---- refusals
+-- a refusal's answer is not 0
+pub not_done : (r : Refusal) → answer_of r ≡ answers.done → ⊥
+not_done BadSizes e = omega arith
+not_done (BadLink place) e = omega arith
+not_done ClosedWalk e = omega arith
+not_done NoSuch e = omega arith
+not_done (Spoilt place) e = omega arith
+not_done TooShort e = omega arith
+
 -- an opening that is refused has the record that a refused header gives
 no_nodes : (open_from 0 0 []).answer ≡ answers.bad_sizes
 unfolding open_from sized
 no_nodes = refl
 
-pub refused_is : (r : Opened) → OpenPost 0 0 [] r → (answer place : ℕ) (from : Cursor)
-    → record { network = r.network; answer = answer; place = place; next = from } ≡ refused_header answer place from
-refused_is r p answer place from =
+pub refused_is : (r : Opened) → OpenPost 0 0 [] r → (refusal : Refusal) (from : Cursor)
+    → record { network = r.network; outcome = Err refusal; next = from } ≡ refused_header refusal from
+refused_is r p refusal from =
     let two : r.answer ≡ answers.bad_sizes = ap (λ o. o.answer) p.outcome ∙ no_nodes in
-    λ i. record { network = p.lone (λ e. omega arith) i; answer = answer; place = place; next = from }
+    λ i. record { network = p.lone (λ e. omega arith) i; outcome = Err refusal; next = from }
 
-pub refuses : (read : Read Header) (answer place : ℕ) (from : Cursor) (r : Headed) → r ≡ refused_header answer place from
-    → read ≡ refused answer place → HeaderPost from.at read r
-refuses read answer place from r e f =
+pub refuses : (read : Read Header) (refusal : Refusal) (from : Cursor) (r : Headed) → r ≡ refused_header refusal from
+    → read ≡ refused (answer_of refusal) (place_of refusal) → HeaderPost from.at read r
+refuses read refusal from r e f =
     rw (e, f)
-    (record { outcome = λ i. record { state = lone_view i; answer = answer; place = place; next = from.at }; lone = λ n. refl })
+    (record {
+      outcome = λ i. record { state = lone_view i; answer = answer_of refusal; place = place_of refusal; next = from.at };
+      lone = λ n. refl;
+    })
 
 -- ---- the links
 -- what their list opens
@@ -50,34 +94,30 @@ module _ (nodes destination : ℕ) (list : List ℕ) (next : ℕ) (from : Cursor
   place_is : o.place ≡ (open_from nodes destination list).place
   place_is = ap (λ x. x.place) p.outcome
 
-  pub not_opened : (o.answer ≡ answers.done → ⊥) → Opens (record { network = o.network; answer = o.answer; place = o.place; next = from })
-  not_opened n =
-      refuses (accepted (header_of nodes destination list) next) o.answer o.place from
-      (record { network = o.network; answer = o.answer; place = o.place; next = from })
-      (λ i. record { network = p.lone n i; answer = o.answer; place = o.place; next = from })
-      (rw (ne_eqb (open_from nodes destination list).answer answers.done (λ z. n (answer_is ∙ z)), answer_is, place_is))
+  pub not_opened : (refusal : Refusal) → answer_of refusal ≡ o.answer → place_of refusal ≡ o.place
+      → Opens (record { network = o.network; outcome = Err refusal; next = from })
+  not_opened refusal e f =
+      let n : o.answer ≡ answers.done → ⊥ = λ z. not_done refusal (e ∙ z) in
+      refuses (accepted (header_of nodes destination list) next) refusal from
+      (record { network = o.network; outcome = Err refusal; next = from })
+      (λ i. record { network = p.lone n i; outcome = Err refusal; next = from })
+      (rw (ne_eqb (open_from nodes destination list).answer answers.done (λ z. n (answer_is ∙ z)), e, f, answer_is, place_is))
 
-  no_place : (open_from nodes destination list).answer ≡ answers.done → (open_from nodes destination list).place ≡ 0
-  unfolding open_from
-  no_place z = let t = tested nodes destination list false z in rw (t.sizes, t.links, t.walks)
-
-  pub opens_it : o.answer ≡ answers.done
-      → Opens (record { network = o.network; answer = o.answer; place = o.place; next = record { at = next } })
-  opens_it z =
-      let done = sym answer_is ∙ z in
+  pub opens_it : (one : Unit {0}) → o.answer ≡ answers.done
+      → Opens (record { network = o.network; outcome = Ok one; next = record { at = next } })
+  opens_it one z =
       let read : accepted (header_of nodes destination list) next ≡ had (header_of nodes destination list) next =
-      rw (eq-eqb (open_from nodes destination list).answer answers.done done) in
+      rw (eq-eqb (open_from nodes destination list).answer answers.done (sym answer_is ∙ z)) in
       record {
-        outcome = (λ i. record { state = (p.outcome i).state; answer = z i; place = (place_is ∙ no_place done) i; next = next })
-            ∙ rw read;
-        lone = λ n. absurd (n z);
+        outcome = (λ i. record { state = (p.outcome i).state; answer = answers.done; place = 0; next = next }) ∙ rw read;
+        lone = λ n. absurd (n refl);
       }
 
 -- the list is cut short, or is whole
 module _ (nodes destination links : ℕ) (file : List ℕ) (at place : ℕ) (from : Cursor) (r : Headed) where
-  pub list_cut : read_numbers (2 * links) file at ≡ refused answers.spoilt place → r ≡ refused_header answers.spoilt place from
+  pub list_cut : read_numbers (2 * links) file at ≡ refused answers.spoilt place → r ≡ refused_header (Spoilt place) from
       → HeaderPost from.at (from_links nodes destination links file at) r
-  list_cut e q = refuses (from_links nodes destination links file at) answers.spoilt place from r q (rw e)
+  list_cut e q = refuses (from_links nodes destination links file at) (Spoilt place) from r q (rw e)
 
   pub list_whole : (list : List ℕ) → read_numbers (2 * links) file at ≡ had list place
       → HeaderPost from.at (accepted (header_of nodes destination list) place) r

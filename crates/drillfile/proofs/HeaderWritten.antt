@@ -16,11 +16,14 @@ use Rattle.model.proofs.Format.{Small, numbers_cons, numbers_nil, Opens, opens, 
 use Rattle.model.proofs.Pieces.{header_stored}
 use Rattle.network.specs.declared.opening.Opened.{Opened}
 use Rattle.network.specs.Opening.{OpenPost}
-use Rattle.entries.specs.declared.answers.Written.{Written}
-use Rattle.entries.specs.Outcomes.{refusal, holding}
+use Rattle.std.specs.Prelude.{Ok, Err}
+use Rattle.entries.specs.declared.answers.Refusal.{Refusal}
+use Rattle.entries.specs.declared.answers.Refusal.TheVariants.{TooShort}
+use Rattle.entries.specs.Outcomes.{answer_of, place_of, holding}
 use Rattle.drillfile.specs.Headers.{header_of}
 use Rattle.entries.proofs.Stores.{two_no_room, two_room}
 use Rattle.drillfile.proofs.Runs.{numbers_short}
+use Rattle.drillfile.proofs.HeaderRead.{not_done}
 
 small_at : (ns : List ℕ) → Small ns → (i : ℕ) → get_or ns i 0 ≤ number_most
 small_at [] s i = omega arith
@@ -46,11 +49,11 @@ module _ (nodes destination : ℕ) (list : List ℕ) where
     place_is : o.place ≡ (open_from nodes destination list).place
     place_is = ap (λ x. x.place) p.outcome
 
-    pub not_opened : (part : List ℕ) {w : Written} → (o.answer ≡ answers.done → ⊥) → w ≡ refusal o.answer o.place
-        → holding w part ≡ write_header (header_of nodes destination list) part
+    pub not_opened : (part : List ℕ) (r : Refusal) → answer_of r ≡ o.answer → place_of r ≡ o.place
+        → holding (Err r) part ≡ write_header (header_of nodes destination list) part
     unfolding write_header
-    not_opened part n e =
-        rw (e, ne_eqb (open_from nodes destination list).answer answers.done (λ z. n (answer_is ∙ z)), answer_is, place_is)
+    not_opened part r e f =
+        rw (ne_eqb (open_from nodes destination list).answer answers.done (λ z. not_done r (e ∙ answer_is ∙ z)), e, f, answer_is, place_is)
 
     -- an accepted opening's numbers are small
     module _ (z : o.answer ≡ answers.done) where
@@ -76,11 +79,10 @@ module _ (nodes destination : ℕ) (list : List ℕ) where
         stores : store (numbers_bytes sizes ++ numbers_bytes list) part ≡ write_header (header_of nodes destination list) part
         stores = sym (header_stored (header_of nodes destination list) part done ∙ ap (λ (l : List ℕ). store l part) bytes_are)
 
-        pub too_short : {r : Written} → length part < v + w → r ≡ refusal answers.too_short 0
-            → holding r part ≡ write_header (header_of nodes destination list) part
-        too_short l e = two_no_room (numbers_bytes sizes) (numbers_bytes list) part first second l e ∙ stores
+        pub too_short : length part < v + w → holding (Err TooShort) part ≡ write_header (header_of nodes destination list) part
+        too_short l = two_no_room (numbers_bytes sizes) (numbers_bytes list) part first second l ∙ stores
 
         pub all_written : {one both : List ℕ} → v + w ≤ length part → one ≡ sets part 0 (numbers_bytes sizes)
             → both ≡ sets one v (numbers_bytes list)
-            → holding (record { answer = answers.done; place = 0; count = v + w }) both ≡ write_header (header_of nodes destination list) part
+            → holding (Ok (v + w)) both ≡ write_header (header_of nodes destination list) part
         all_written l f g = two_room (numbers_bytes sizes) (numbers_bytes list) part first second l f g ∙ stores

@@ -1,5 +1,5 @@
 -- The node numbers of a header's links, read one by one into an array. Assumes nothing.
-use Prim.Native.Nat.{ℕ, suc, ◌+◌, ◌*◌, ◌-◌, ◌≤◌, ◌<◌}
+use Prim.Native.Nat.{ℕ, suc, ◌+◌, ◌-◌, ◌≤◌, ◌<◌}
 use native.Mathlib.Nat.{sub-zero}
 use native.Mathlib.Numerals.{add-one}
 use native.Mathlib.Omega.{arith}
@@ -7,7 +7,7 @@ use mathlib.Core.Path.{◌≡◌, refl, sym, ap, ◌∙◌}
 use mathlib.Core.List.{List, [], ◌∷◌, ◌++◌, append_assoc, append-nil}
 use lib.ListN.{length, take, set, length-set}
 use lib.Seq.{take-suc-set}
-use Rattle.model.specs.Limits.{links_most, ends_most}
+use Rattle.model.specs.Limits.{ends_most}
 use Rattle.model.specs.Answers as answers
 use Rattle.model.specs.Number.{Read, had, refused, read_number}
 use Rattle.model.specs.File.{and_then, read_numbers}
@@ -88,25 +88,3 @@ module _ (file : List ℕ) (at count : ℕ) (list : List ℕ) (place i : ℕ) (s
       ∙ ap (λ (k : ℕ). behind (take i list) (read_numbers k file place)) none
       ∙ ap (behind (take i list)) (numbers_zero file place)
       ∙ ap (λ (l : List ℕ). had l place) (append-nil (take i list) ∙ ap (λ (k : ℕ). take k list) same)
-
--- the two numbers of a link
-module _ (file : List ℕ) (at links : ℕ) (list : List ℕ) (place l : ℕ) (s : SoFar file at (2 * links) list place (2 * l)) (h : l < links) where
-  pub tail_cut : read_number file place ≡ refused answers.spoilt place → read_numbers (2 * links) file at ≡ refused answers.spoilt place
-  tail_cut = cut_off file at (2 * links) list place (2 * l) s (omega arith)
-
-  module _ (most : links ≤ links_most) (tail middle : ℕ) (t : read_number file place ≡ had tail middle) where
-    half : SoFar file at (2 * links) (set list (2 * l) tail) middle (2 * l + 1)
-    half = one_more file at (2 * links) list place (2 * l) s (omega arith) tail middle (omega arith) t
-
-    pub middle_inside : middle ≤ length file
-    middle_inside = half.inside
-
-    pub head_cut : read_number file middle ≡ refused answers.spoilt middle → read_numbers (2 * links) file at ≡ refused answers.spoilt middle
-    head_cut = cut_off file at (2 * links) (set list (2 * l) tail) middle (2 * l + 1) half (omega arith)
-
-    pub link_read : (head next : ℕ) → read_number file middle ≡ had head next
-        → SoFar file at (2 * links) (set (set list (2 * l) tail) (2 * l + 1) head) next (2 * (l + 1))
-    link_read head next e =
-        let whole = one_more file at (2 * links) (set list (2 * l) tail) middle (2 * l + 1) half (omega arith) head next (omega arith) e in
-        let two : 2 * l + 1 + 1 ≡ 2 * (l + 1) = omega arith in
-        rw two at whole

@@ -1,112 +1,92 @@
 // Reading a header: its sizes, its links, and the record that they open.
-ghost use Rattle.std.specs.Prelude.{◌≡◌, ◌≤◌, min, length};
+ghost use Rattle.std.specs.Prelude.{◌≡◌, ◌≤◌, length};
 ghost use Rattle.model.specs.Limits.{links_most};
 ghost use Rattle.model.specs.Formed.{sized};
 ghost use Rattle.model.specs.File.{accepted};
-ghost use Rattle.drillfile.specs.Headers.{header_of, refused_header, HeaderPost, from_links};
+ghost use Rattle.entries.specs.Outcomes.{answer_in, place_in};
+ghost use Rattle.drillfile.specs.Headers.{header_of, refused_header, HeaderPost, from_links, OpeningAnswer};
 
-use crate::answers::{Headed, SPOILT};
-use entries::{Cursor, DONE};
-use groups::{Number, read_number};
+use crate::answers::Headed;
+use entries::{Cursor, Refusal};
+use groups::read_number;
 
-// A position past the end counts as the end.
-pub(crate) fn within(length: usize, at: usize) -> usize
-    ensures { result ≡ min at length }
-{
-    if length < at {
-        return length;
-    }
-    at
+// The three numbers that a header begins with.
+#[derive(Clone, Copy)]
+pub(crate) struct Sizes {
+    pub nodes: u32,
+    pub destination: u32,
+    pub links: u32,
 }
 
 // The other side of answer 2.
-pub(crate) fn sizes_hold(nodes: u32, destination: u32, links: u32) -> bool
-    ensures { result ≡ sized nodes destination links }
+pub(crate) fn sizes_hold(s: Sizes) -> bool
+    ensures { result ≡ sized s.nodes s.destination s.links }
 {
-    (1 <= nodes)
-        & (nodes as usize <= model::NODES)
-        & (destination < nodes)
-        & (links as usize <= model::LINKS)
+    (1 <= s.nodes)
+        & (s.nodes as usize <= model::NODES)
+        & (s.destination < s.nodes)
+        & (s.links as usize <= model::LINKS)
+}
+
+// What an opening answers, as an outcome.
+pub(crate) fn outcome(answer: u32, place: usize) -> Result<(), Refusal>
+    requires { OpeningAnswer answer place }
+    ensures { (answer_in result ≡ answer) × (place_in result ≡ place) }
+{
+    match answer {
+        0 => Ok(()),
+        2 => Err(Refusal::BadSizes),
+        3 => Err(Refusal::BadLink(place)),
+        _ => Err(Refusal::ClosedWalk),
+    }
 }
 
 // A refused header gives the record that a refused opening gives.
-pub(crate) fn refused(answer: u32, place: usize, from: Cursor) -> Headed
-    ensures { result ≡ refused_header answer place from }
+pub(crate) fn refused(refusal: Refusal, from: Cursor) -> Headed
+    ensures { result ≡ refused_header refusal from }
 {
-    let none = [0u32; 1];
-    let opened = network::open(0, 0, &none[..0]);
-    let network = opened.network;
+    let opened = network::open(0, 0, &[]);
     Headed {
-        network,
-        answer,
-        place,
+        network: opened.network,
+        outcome: Err(refusal),
         next: from,
     }
 }
 
 // What a list of node numbers opens, with the position after it: 3, 4, or the record.
-pub(crate) fn open_list(
-    nodes: usize,
-    destination: usize,
-    list: &[u32],
-    next: usize,
-    from: Cursor,
-) -> Headed
-    ensures { HeaderPost from.at (accepted (header_of nodes destination list.now) next) result }
+fn open_list(sizes: Sizes, list: &[u32], next: usize, from: Cursor) -> Headed
+    ensures { HeaderPost from.at (accepted (header_of sizes.nodes sizes.destination list.now) next) result }
 {
-    let opened = network::open(nodes, destination, list);
+    let opened = network::open(sizes.nodes as usize, sizes.destination as usize, list);
     let network = opened.network;
-    let answer = opened.answer;
-    if answer != DONE {
+    if let Err(refusal) = outcome(opened.answer, opened.place) {
         return Headed {
             network,
-            answer,
-            place: opened.place,
+            outcome: Err(refusal),
             next: from,
         };
     }
     Headed {
         network,
-        answer,
-        place: opened.place,
+        outcome: Ok(()),
         next: Cursor { at: next },
     }
 }
 
 // The links of a header whose sizes hold: 11 at the first number that can't be had, then 3 and 4.
-pub(crate) fn read_links(
-    file: &[u8],
-    nodes: u32,
-    destination: u32,
-    links: u32,
-    at: usize,
-    from: Cursor,
-) -> Headed
-    requires { (at ≤ length file.now) × (links ≤ links_most) }
-    ensures { HeaderPost from.at (from_links nodes destination links file.now at) result }
+pub(crate) fn read_links(file: &[u8], sizes: Sizes, at: usize, from: Cursor) -> Headed
+    requires { (at ≤ length file.now) × (sizes.links ≤ links_most) }
+    ensures { HeaderPost from.at (from_links sizes.nodes sizes.destination sizes.links file.now at) result }
 {
-    let count = links as usize;
+    let size = 2 * sizes.links as usize;
     let mut list = [0u32; model::ENDS];
     let mut place = at;
-    let mut l: usize = 0;
-    while l < count {
-        let Number::Value(tail, middle) = read_number(file, place) else {
-            return refused(SPOILT, place, from);
+    for x in 0..size {
+        let Ok(node) = read_number(file, place) else {
+            return refused(Refusal::Spoilt(place), from);
         };
-        let Number::Value(head, next) = read_number(file, middle) else {
-            return refused(SPOILT, middle, from);
-        };
-        list[2 * l] = tail;
-        list[2 * l + 1] = head;
-        place = next;
-        l += 1;
+        list[x] = node.value;
+        place = node.next;
     }
-    let size = 2 * count;
-    open_list(
-        nodes as usize,
-        destination as usize,
-        &list[..size],
-        place,
-        from,
-    )
+    open_list(sizes, &list[..size], place, from)
 }

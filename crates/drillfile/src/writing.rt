@@ -12,10 +12,8 @@ pub(crate) fn total_width(list: &[u32]) -> usize
     ensures { result ≡ length (numbers_bytes list.now) }
 {
     let mut sum: usize = 0;
-    let mut i: usize = 0;
-    while i < list.len() {
-        sum += width(list[i]);
-        i += 1;
+    for &n in list {
+        sum += width(n);
     }
     sum
 }
@@ -26,10 +24,8 @@ pub(crate) fn put_numbers(out: &mut [u8], at: usize, list: &[u32]) -> usize
     ensures { (result ≡ at + length (numbers_bytes list.now)) × (out.new ≡ sets out.old at (numbers_bytes list.now)) }
 {
     let mut next = at;
-    let mut i: usize = 0;
-    while i < list.len() {
-        next = put_number(out, next, list[i]);
-        i += 1;
+    for &n in list {
+        next = put_number(out, next, n);
     }
     next
 }

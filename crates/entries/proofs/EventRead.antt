@@ -11,12 +11,13 @@ use Rattle.model.specs.Number.{had, refused, read_number}
 use Rattle.model.specs.File.{of_kind, read_event}
 use Rattle.model.proofs.Numbers.{number_place, number_moves}
 use Rattle.model.proofs.Format.{kind_made, event_end}
+use Rattle.std.specs.Prelude.{None, Some, Result, Ok, Err}
 use Rattle.groups.specs.declared.answers.Number.{Number}
-use Rattle.groups.specs.declared.answers.Number.TheVariants.{Value, Spoilt}
+use Rattle.groups.specs.declared.answers.Spoilt.{Spoilt}
 use Rattle.groups.specs.Numbers.{number_of}
 use Rattle.entries.specs.declared.answers.Cursor.{Cursor}
-use Rattle.entries.specs.declared.answers.Got.TheVariants as got
-use Rattle.entries.specs.Outcomes.{seen, event_at, known}
+use Rattle.entries.specs.declared.answers.Got.{Got}
+use Rattle.entries.specs.Outcomes.{seen, spoilt_at, event_at, known}
 use Rattle.entries.proofs.KnownKinds.{known_makes, known_not}
 
 -- a number that was not had was looked for at its place
@@ -28,40 +29,48 @@ place_is file at place h e =
     e ∙ ap (λ (n : ℕ). refused answers.spoilt n) same
 
 -- what the code's number says of the file's
-pub as_had : (file : List ℕ) (at : ℕ) {r : Number} (v next : ℕ) → number_of r ≡ read_number file at → r ≡ Value v next
-    → read_number file at ≡ had v next
-as_had file at v next e q = sym e ∙ ap number_of q
+pub as_had : (file : List ℕ) (at : ℕ) {r : Result Number Spoilt} (n : Number) → number_of r ≡ read_number file at → r ≡ Ok n
+    → read_number file at ≡ had n.value n.next
+as_had file at n e q = sym e ∙ ap number_of q
 
-pub as_spoilt : (file : List ℕ) (at : ℕ) {r : Number} (place : ℕ) → at ≤ length file → number_of r ≡ read_number file at → r ≡ Spoilt place
-    → read_number file at ≡ refused answers.spoilt at
-as_spoilt file at place h e q = place_is file at place h (sym e ∙ ap number_of q)
+pub as_spoilt : (file : List ℕ) (at : ℕ) {r : Result Number Spoilt} (s : Spoilt) → at ≤ length file → number_of r ≡ read_number file at
+    → r ≡ Err s → read_number file at ≡ refused answers.spoilt at
+as_spoilt file at s h e q = place_is file at s.place h (sym e ∙ ap number_of q)
+
+-- the end of a file, and an event, as the code gives them
+abbrev end_of : ℕ → Got
+end_of length = record { event = Ok None; next = record { at = length } }
+
+abbrev event_of : ℕ → ℕ → ℕ → Got
+event_of kind argument next = record { event = Ok (Some (record { kind = kind; argument = argument })); next = record { at = next } }
 
 module _ (file : List ℕ) (from : Cursor) where
-  pub no_more : length file ≤ from.at → seen (got.End (record { at = length file })) ≡ event_at file from.at
+  pub no_more : length file ≤ from.at → seen (end_of (length file)) ≡ event_at file from.at
   unfolding event_at
   no_more h = rw (event_end file from.at h)
 
-  module _ (here : from.at < length file) {kind : Number} (read : number_of kind ≡ read_number file from.at) where
-    pub no_kind : (place : ℕ) → kind ≡ Spoilt place → seen (got.Spoilt from.at from) ≡ event_at file from.at
+  module _ (here : from.at < length file) {kind : Result Number Spoilt} (read : number_of kind ≡ read_number file from.at) where
+    pub no_kind : (s : Spoilt) → kind ≡ Err s → {g : Got} → g ≡ spoilt_at from.at from → seen g ≡ event_at file from.at
     unfolding event_at read_event
-    no_kind place q = rw (lt-leb (length file) from.at here, as_spoilt file from.at place (omega arith) read q)
+    no_kind s q g = rw (g, lt-leb (length file) from.at here, as_spoilt file from.at s (omega arith) read q)
 
-    module _ (k middle : ℕ) (q : kind ≡ Value k middle) where
-      pub unknown_kind : known (of_kind k) ≡ false → seen (got.Spoilt from.at from) ≡ event_at file from.at
+    module _ (k : Number) (q : kind ≡ Ok k) where
+      pub unknown_kind : known (of_kind k.value) ≡ false → {g : Got} → g ≡ spoilt_at from.at from → seen g ≡ event_at file from.at
       unfolding event_at read_event
-      unknown_kind e = rw (lt-leb (length file) from.at here, as_had file from.at k middle read q, known_not (of_kind k) e)
+      unknown_kind e g = rw (g, lt-leb (length file) from.at here, as_had file from.at k read q, known_not (of_kind k.value) e)
 
-      module _ (e : known (of_kind k) ≡ true) {argument : Number} (read_argument : number_of argument ≡ read_number file middle) where
-        pub no_argument : (place : ℕ) → argument ≡ Spoilt place → seen (got.Spoilt middle from) ≡ event_at file from.at
+      module _ (e : known (of_kind k.value) ≡ true) {argument : Result Number Spoilt} (read_argument : number_of argument ≡ read_number file k.next) where
+        pub no_argument : (s : Spoilt) → argument ≡ Err s → {g : Got} → g ≡ spoilt_at k.next from → seen g ≡ event_at file from.at
         unfolding event_at read_event
-        no_argument place f =
-            let r = as_had file from.at k middle read q in
-            let m = number_moves file from.at k middle r in
-            rw (lt-leb (length file) from.at here, r, (known_makes (of_kind k) e).1, as_spoilt file middle place m.1 read_argument f)
+        no_argument s f g =
+            let r = as_had file from.at k read q in
+            let m = number_moves file from.at k.value k.next r in
+            rw (g, lt-leb (length file) from.at here, r, (known_makes (of_kind k.value) e).1, as_spoilt file k.next s m.1 read_argument f)
 
-        pub whole : (a next : ℕ) → argument ≡ Value a next → seen (got.Event k a (record { at = next })) ≡ event_at file from.at
+        pub whole : (a : Number) → argument ≡ Ok a → seen (event_of k.value a.value a.next) ≡ event_at file from.at
         unfolding event_at read_event
-        whole a next f =
-            let m = known_makes (of_kind k) e in
-            let own = kind_made k m.0 a m.1 in
-            rw (lt-leb (length file) from.at here, as_had file from.at k middle read q, m.1, as_had file middle a next read_argument f, own.0, own.1)
+        whole a f =
+            let m = known_makes (of_kind k.value) e in
+            let own = kind_made k.value m.0 a.value m.1 in
+            rw
+            (lt-leb (length file) from.at here, as_had file from.at k read q, m.1, as_had file k.next a read_argument f, own.0, own.1)

@@ -2,7 +2,7 @@
 use Prim.Native.Nat.{ℕ, suc, ◌+◌, ◌*◌, ◌%◌, ◌≤◌, ◌<◌, min}
 use native.Mathlib.Omega.{arith}
 use native.Mathlib.Numerals.{add-one}
-use mathlib.Core.Path.{◌≡◌, refl, ap}
+use mathlib.Core.Path.{◌≡◌, refl, sym, ap, ◌∙◌}
 use mathlib.Core.Bool.{true, false}
 use mathlib.Core.List.{List}
 use mathlib.Core.Option.{Option, none, some}
@@ -58,48 +58,56 @@ read_past file at h =
     let e : min at (length file) ≡ length file = omega arith in
     rw (e, cut_short 2 file at h)
 
-module _ (file : List ℕ) (at : ℕ) (h : at < length file) where
+-- the byte there
+module _ (file : List ℕ) (at : ℕ) (h : at < length file) {b : ℕ} (is : b ≡ get_or file at 0) where
   here : min at (length file) ≡ at
   here = omega arith
 
-  pub read_one : leb group (get_or file at 0) ≡ false → (v : ℕ) → v ≡ get_or file at 0 % group → had v (at + 1) ≡ read_number file at
+  pub read_one : leb group b ≡ false → (v : ℕ) → v ≡ b % group → had v (at + 1) ≡ read_number file at
   unfolding read_number
-  read_one e v q = rw (here, last_byte 2 file at h e) (ap (λ (n : ℕ). had n (at + 1)) (omega (arith, leb-false group (get_or file at 0) e)))
+  read_one e v q =
+      rw (here, last_byte 2 file at h (ap (leb group) (sym is) ∙ e))
+      (ap (λ (n : ℕ). had n (at + 1)) (omega (arith, leb-false group b e)))
 
-  pub read_more : leb group (get_or file at 0) ≡ true → (low : ℕ) → low ≡ get_or file at 0 % group
+  pub read_more : leb group b ≡ true → (low : ℕ) → low ≡ b % group
       → placed at (join low (number_in 2 (drop (at + 1) file))) ≡ read_number file at
   unfolding read_number
-  read_more e low q = rw (here, goes_on 2 file at h e, q)
+  read_more e low q = rw (here, goes_on 2 file at h (ap (leb group) (sym is) ∙ e), q, is)
 
 -- a group at a position, with k groups allowed above it, below which one group stands
 module _ (k : ℕ) (file : List ℕ) (at : ℕ) (low : ℕ) where
-  abbrev byte : ℕ
-  byte = get_or file at 0
-
   pub group_cut : length file ≤ at → join low (number_in (suc k) (drop at file)) ≡ none
   group_cut h = rw (cut_short k file at h, join_none)
 
-  module _ (h : at < length file) where
-    pub group_zero : leb group byte ≡ false → byte ≡ 0 → join low (number_in (suc k) (drop at file)) ≡ none
-    group_zero e z = rw (last_byte k file at h e, join_zero low (record { value = byte; width = 1 }) z)
+  module _ (h : at < length file) {b : ℕ} (is : b ≡ get_or file at 0) where
+    pub group_zero : leb group b ≡ false → b ≡ 0 → join low (number_in (suc k) (drop at file)) ≡ none
+    group_zero e z =
+        rw (
+          last_byte k file at h (ap (leb group) (sym is) ∙ e),
+          join_zero low (record { value = get_or file at 0; width = 1 }) (sym is ∙ z),
+        )
 
-    pub group_pos : leb group byte ≡ false → (byte ≡ 0 → ⊥) → (b : ℕ) → b ≡ byte % group → 0 < b
-    group_pos e z b q = omega (arith, leb-false group byte e)
+    pub group_pos : leb group b ≡ false → (b ≡ 0 → ⊥) → (v : ℕ) → v ≡ b % group → 0 < v
+    group_pos e z v q = omega (arith, leb-false group b e)
 
-    pub group_last : leb group byte ≡ false → (byte ≡ 0 → ⊥) → (b : ℕ) → b ≡ byte % group
-        → join low (number_in (suc k) (drop at file)) ≡ some (record { value = b * group + low; width = 2 })
-    group_last e z b q =
-        let same : byte ≡ b = omega (arith, leb-false group byte e) in
-        rw (last_byte k file at h e, join_some low (record { value = byte; width = 1 }) z, same)
+    pub group_last : leb group b ≡ false → (b ≡ 0 → ⊥) → (v : ℕ) → v ≡ b % group
+        → join low (number_in (suc k) (drop at file)) ≡ some (record { value = v * group + low; width = 2 })
+    group_last e z v q =
+        let same : get_or file at 0 ≡ v = omega (arith, is, leb-false group b e) in
+        rw (
+          last_byte k file at h (ap (leb group) (sym is) ∙ e),
+          join_some low (record { value = get_or file at 0; width = 1 }) (λ n. z (is ∙ n)),
+          same,
+        )
 
-    pub group_more : leb group byte ≡ true → (b next : ℕ) → b ≡ byte % group → next ≡ at + 1
-        → join low (join b (number_in k (drop next file))) ≡ join low (number_in (suc k) (drop at file))
-    group_more e b next q n = rw (goes_on k file at h e, q, n)
+    pub group_more : leb group b ≡ true → (v next : ℕ) → v ≡ b % group → next ≡ at + 1
+        → join low (join v (number_in k (drop next file))) ≡ join low (number_in (suc k) (drop at file))
+    group_more e v next q n = rw (goes_on k file at h (ap (leb group) (sym is) ∙ e), q, n, is)
 
 -- a third group that goes on
-pub group_fourth : (file : List ℕ) (at low : ℕ) → at < length file → leb group (get_or file at 0) ≡ true
+pub group_fourth : (file : List ℕ) (at low : ℕ) → at < length file → {b : ℕ} → b ≡ get_or file at 0 → leb group b ≡ true
     → join low (number_in 1 (drop at file)) ≡ none
-group_fourth file at low h e = rw (goes_on 0 file at h e, fourth, join_none, join_none)
+group_fourth file at low h is e = rw (goes_on 0 file at h (ap (leb group) (sym is) ∙ e), fourth, join_none, join_none)
 
 -- one group more below
 pub under_none : (low : ℕ) {o : Option Value} → o ≡ none → join low o ≡ none

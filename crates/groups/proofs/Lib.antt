@@ -2,5 +2,4 @@ pub mod Masks
 pub mod Joining
 pub mod Splitting
 pub mod Stores
-pub mod Puts
 pub mod OneOutcome

@@ -3,15 +3,16 @@
 use Prim.Native.Nat.{ℕ}
 use mathlib.Core.Path.{◌≡◌, refl, sym, ap, ◌∙◌}
 use mathlib.Core.List.{List, [], ◌∷◌}
-use mathlib.Core.Option.{Option, none, some}
+use mathlib.Core.Option as math
+use Rattle.std.specs.Prelude.{Option, None, Some, Result, Ok, Err}
 use contract.Lifetimes.{Lfts}
 use denote.Triple.Clauses.{AtExit}
 use borrow.Fn.Kinds.{ParamKind, ResultKind, Dens, res_t, ended_of, Out}
 use Rattle.model.specs.Number.{Read, had, refused}
 use Rattle.groups.specs.declared.answers.Number.{Number}
-use Rattle.groups.specs.declared.answers.Number.TheVariants.{Value, Spoilt}
+use Rattle.groups.specs.declared.answers.Spoilt.{Spoilt}
 use Rattle.groups.specs.declared.answers.Groups.{Groups}
-use Rattle.groups.specs.declared.answers.Groups.TheVariants.{One, Two, Three, TooLarge}
+use Rattle.groups.specs.declared.answers.Groups.TheVariants.{One, Two, Three}
 use Rattle.groups.specs.Numbers.{number_of, bytes_of}
 use Rattle.groups.proofs.read_number.Kinds as read_number_kinds
 use Rattle.groups.proofs.read_number.Reads as read_number
@@ -19,26 +20,26 @@ use Rattle.groups.proofs.split.Kinds as split_kinds
 use Rattle.groups.proofs.split.Reads as split
 
 -- an answer can be told from what it stands for
-abbrev number_from : Read ℕ → Number
-number_from (had v next) = Value v next
-number_from (refused answer place) = Spoilt place
+abbrev number_from : Read ℕ → Result Number Spoilt
+number_from (had v next) = Ok (record { value = v; next = next })
+number_from (refused answer place) = Err (record { place = place })
 
-number_back : (r : Number) → number_from (number_of r) ≡ r
-number_back (Value v next) = refl
-number_back (Spoilt place) = refl
+number_back : (r : Result Number Spoilt) → number_from (number_of r) ≡ r
+number_back (Ok n) = refl
+number_back (Err s) = refl
 
-abbrev groups_of : Option (List ℕ) → Groups
-groups_of none = TooLarge
-groups_of (some []) = TooLarge
-groups_of (some (a ∷ [])) = One a
-groups_of (some (a ∷ b ∷ [])) = Two a b
-groups_of (some (a ∷ b ∷ c ∷ l)) = Three a b c
+abbrev groups_of : math.Option (List ℕ) → Option Groups
+groups_of math.none = None
+groups_of (math.some []) = None
+groups_of (math.some (a ∷ [])) = Some (One a)
+groups_of (math.some (a ∷ b ∷ [])) = Some (Two a b)
+groups_of (math.some (a ∷ b ∷ c ∷ l)) = Some (Three a b c)
 
-groups_back : (r : Groups) → groups_of (bytes_of r) ≡ r
-groups_back (One a) = refl
-groups_back (Two a b) = refl
-groups_back (Three a b c) = refl
-groups_back TooLarge = refl
+groups_back : (r : Option Groups) → groups_of (bytes_of r) ≡ r
+groups_back None = refl
+groups_back (Some (One a)) = refl
+groups_back (Some (Two a b)) = refl
+groups_back (Some (Three a b c)) = refl
 
 abbrev pub OneAnswer : (n : ℕ) (ps : List (ParamKind n)) (k : ResultKind n) → Out n ps k → Type 0
 OneAnswer n ps k Post =

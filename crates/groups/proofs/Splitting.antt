@@ -1,13 +1,11 @@
 -- The bytes of a number, by how many groups it has. Assumes nothing.
-use Prim.Native.Nat.{ℕ, suc, ◌+◌, ◌/◌, ◌%◌, ◌≤◌, ◌<◌}
+use Prim.Native.Nat.{ℕ, suc, ◌+◌, ◌/◌, ◌%◌, ◌≤◌}
 use native.Mathlib.Omega.{arith}
 use mathlib.Core.Path.{◌≡◌}
-use mathlib.Core.List.{List, [], ◌∷◌}
-use mathlib.Core.Option.{none, some}
-use borrow.Author.Tests.{le-leb, lt-leb, lt-ltb, le-ltb}
+use mathlib.Core.List.{[], ◌∷◌}
+use borrow.Author.Tests.{lt-ltb, le-ltb}
 use Rattle.model.specs.Limits.{group, number_most}
 use Rattle.model.specs.Number.{groups}
-use Rattle.groups.specs.Numbers.{write_number}
 
 -- the number ends, or goes on, with its lowest group
 groups_end : (k n : ℕ) → n / group ≡ 0 → groups (suc k) n ≡ n % group ∷ []
@@ -20,26 +18,18 @@ groups_more : (k n : ℕ) → (n / group ≡ 0 → ⊥) → groups (suc k) n ≡
 unfolding groups
 groups_more k n e = rw (le-ltb n group (omega arith))
 
-pub too_large : (n : ℕ) → number_most < n → none ≡ write_number n
-unfolding write_number
-too_large n h = rw (lt-leb n number_most h)
-
-module _ (n : ℕ) (h : n ≤ number_most) where
-  fits : {l : List ℕ} → l ≡ groups 3 n → some l ≡ write_number n
-  unfolding write_number
-  fits e = rw (le-leb n number_most h, e)
-
-  pub one : (high a : ℕ) → high ≡ n / group → high ≡ 0 → a ≡ n % group → some (a ∷ []) ≡ write_number n
-  one high a p z q = fits (rw (q, groups_end 2 n (omega arith)))
+module _ (n : ℕ) where
+  pub one : (high a : ℕ) → high ≡ n / group → high ≡ 0 → a ≡ n % group → a ∷ [] ≡ groups 3 n
+  one high a p z q = rw (q, groups_end 2 n (omega arith))
 
   module _ (high a : ℕ) (p : high ≡ n / group) (z : high ≡ 0 → ⊥) (q : a ≡ n % group + group) where
     lower : groups 3 n ≡ a ∷ groups 2 high
     lower = rw (q, p, groups_more 2 n (λ e. z (omega arith)))
 
-    pub two : (top b : ℕ) → top ≡ high / group → top ≡ 0 → b ≡ high % group → some (a ∷ b ∷ []) ≡ write_number n
-    two top b t y r = fits (rw (lower, r, groups_end 1 high (omega arith)))
+    pub two : (top b : ℕ) → top ≡ high / group → top ≡ 0 → b ≡ high % group → a ∷ b ∷ [] ≡ groups 3 n
+    two top b t y r = rw (lower, r, groups_end 1 high (omega arith))
 
-    pub three : (top b d : ℕ) → top ≡ high / group → (top ≡ 0 → ⊥) → b ≡ high % group + group → d ≡ top % group
-        → some (a ∷ b ∷ d ∷ []) ≡ write_number n
-    three top b d t y r s =
-        fits (rw (lower, r, s, groups_more 1 high (λ e. y (omega arith)), ← t, groups_end 0 top (omega arith)))
+    pub three : n ≤ number_most → (top b d : ℕ) → top ≡ high / group → (top ≡ 0 → ⊥) → b ≡ high % group + group → d ≡ top % group
+        → a ∷ b ∷ d ∷ [] ≡ groups 3 n
+    three h top b d t y r s =
+        rw (lower, r, s, groups_more 1 high (λ e. y (omega arith)), ← t, groups_end 0 top (omega arith))

@@ -1,17 +1,22 @@
-// What the calls of this crate give back; specs/ says what each case stands for.
+// What the calls of this crate give back; specs/ says what each stands for.
 
-// A number that was read, with the position after it; or the place of what is spoilt.
-#[derive(Clone, Copy)]
-pub enum Number {
-    Value(u32, usize),
-    Spoilt(usize),
+// A number that was read, and the position after it.
+#[derive(Clone, Copy, Debug, PartialEq, Eq)]
+pub struct Number {
+    pub value: u32,
+    pub next: usize,
 }
 
-// The bytes of a number; none for one over the largest.
-#[derive(Clone, Copy)]
+// A number that can't be had, by its place.
+#[derive(Clone, Copy, Debug, PartialEq, Eq)]
+pub struct Spoilt {
+    pub place: usize,
+}
+
+// The bytes of a number.
+#[derive(Clone, Copy, Debug, PartialEq, Eq)]
 pub enum Groups {
     One(u8),
     Two(u8, u8),
     Three(u8, u8, u8),
-    TooLarge,
 }

@@ -6,7 +6,7 @@ ghost use Rattle.model.specs.Limits.{group};
 pub(crate) fn low(b: u8) -> u32
     ensures { result ≡ b % group }
 {
-    (b & 0x7f) as u32
+    u32::from(b & 0x7f)
 }
 
 // Whether another byte follows.

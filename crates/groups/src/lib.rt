@@ -10,38 +10,32 @@ ghost use Rattle.std.specs.Prelude.{◌≡◌};
 ghost use Rattle.model.specs.Number.{read_number};
 ghost use Rattle.groups.specs.Numbers.{number_of, bytes_of, write_number};
 
-pub use answers::{Groups, Number};
-use bits::{goes_on, last, low, more, rest};
+pub use answers::{Groups, Number, Spoilt};
+use bits::{goes_on, low};
 pub use writing::{put_number, width};
 
 // The number at a position of a file.
-pub fn read_number(file: &[u8], at: usize) -> Number
+pub fn read_number(file: &[u8], at: usize) -> Result<Number, Spoilt>
     ensures { number_of result ≡ read_number file.now at }
 {
-    if file.len() <= at {
-        return Number::Spoilt(file.len());
-    }
-    let b = file[at];
+    let Some(&b) = file.get(at) else {
+        return Err(Spoilt { place: file.len() });
+    };
     if goes_on(b) {
         return reading::second_group(file, at, low(b));
     }
-    Number::Value(low(b), at + 1)
+    Ok(Number {
+        value: low(b),
+        next: at + 1,
+    })
 }
 
-// The bytes of a number, in the shortest form.
-pub fn split(value: u32) -> Groups
+// The bytes of a number, in the shortest form; none for one over the largest.
+pub fn split(value: u32) -> Option<Groups>
     ensures { bytes_of result ≡ write_number value }
 {
     if model::NUMBER < value {
-        return Groups::TooLarge;
+        return None;
     }
-    let high = rest(value);
-    if high == 0 {
-        return Groups::One(last(value));
-    }
-    let top = rest(high);
-    if top == 0 {
-        return Groups::Two(more(value), last(high));
-    }
-    Groups::Three(more(value), more(high), last(top))
+    Some(writing::shortest(value))
 }

@@ -13,10 +13,10 @@ use Rattle.groups.proofs.OneOutcome.{OneAnswer}
 use Rattle.drillfile.specs.declared.answers.Headed.{Headed}
 use Rattle.entries.proofs.OneOutcome.{got_same}
 use Rattle.drillfile.proofs.OneOutcome.{Same, header_same}
-use Rattle.reader.specs.contracts.new as new
-use Rattle.reader.specs.contracts.moved as moved
-use Rattle.reader.specs.contracts.header as header
-use Rattle.reader.specs.contracts.next as next
+use Rattle.reader.specs.contracts.Reader.new as new
+use Rattle.reader.specs.contracts.Reader.moved as moved
+use Rattle.reader.specs.contracts.Reader.header as header
+use Rattle.reader.specs.contracts.Reader.next as next
 use Rattle.reader.proofs.header_of.Kinds as header_of_kinds
 use Rattle.reader.proofs.header_of.Reads as header_of
 use Rattle.reader.proofs.next_at.Kinds as next_at_kinds

@@ -16,10 +16,12 @@ use Rattle.model.specs.File.{and_then, Header, opening, read_numbers, accepted, 
 use Rattle.model.proofs.Below.{look}
 use Rattle.model.proofs.Numbers.{never, number_place}
 use Rattle.network.specs.View.{view}
-use Rattle.entries.specs.declared.answers.Cursor.{Cursor}
 use Rattle.drillfile.specs.declared.answers.Headed.{Headed}
-use Rattle.entries.specs.declared.answers.Got.TheVariants as got
-use Rattle.entries.specs.Outcomes.{Seen, seen, seen_at, event_at}
+use Rattle.groups.specs.declared.answers.Spoilt.{Spoilt}
+use Rattle.entries.specs.declared.answers.Event.{Event as FileEvent}
+use Rattle.entries.specs.declared.answers.Got.{Got}
+use Rattle.entries.specs.Outcomes.{Seen, seen, seen_by, seen_at, event_at, answer_in, place_in}
+use Rattle.std.specs.Prelude.{None, Some, Ok, Err}
 use Rattle.drillfile.specs.Headers.{HeaderSeen, seen_header, header_seen, HeaderPost}
 
 -- a reading that can't be had ends there, or goes on
@@ -57,40 +59,41 @@ module _ (file : List ℕ) (at : ℕ) where
   abbrev IsEvent : ℕ → ℕ → ℕ → Read (Option Event) → Type 0
   IsEvent k a next x = (e : Event) × (x ≡ had (some e) next) × (kind e ≡ k) × (argument e ≡ a)
 
-  seen_event : (x : Read (Option Event)) (k a : ℕ) (n : Cursor) → seen (got.Event k a n) ≡ seen_at at x → IsEvent k a n.at x
-  seen_event (had none m) k a n e = never (let f = ap (λ (s : Seen). s.event) e in cc)
-  seen_event (had (some v) m) k a n e =
-      let f = ap (λ (s : Seen). s.event) e in
-      let pair : ◌≡◌ {A = ℕ × ℕ} (k, a) (kind v, argument v) = cc in
-      let next = ap (λ (s : Seen). s.next) e in
+  seen_event : (x : Read (Option Event)) (e : FileEvent) (n : ℕ) → seen_by (Ok (Some e)) n ≡ seen_at at x → IsEvent e.kind e.argument n x
+  seen_event (had none m) e n s = never (let f = ap (λ (t : Seen). t.event) s in cc)
+  seen_event (had (some v) m) e n s =
+      let f = ap (λ (t : Seen). t.event) s in
+      let pair : ◌≡◌ {A = ℕ × ℕ} (e.kind, e.argument) (kind v, argument v) = cc in
+      let next = ap (λ (t : Seen). t.next) s in
       (v, ap (λ (p : ℕ). had (some v) p) (sym next), sym (ap (λ (q : ℕ × ℕ). q.0) pair), sym (ap (λ (q : ℕ × ℕ). q.1) pair))
-  seen_event (refused b p) k a n e = never (let f = ap (λ (s : Seen). s.event) e in cc)
+  seen_event (refused b p) e n s = never (let f = ap (λ (t : Seen). t.event) s in cc)
 
-  pub event_told : (k a : ℕ) (n : Cursor) → seen (got.Event k a n) ≡ event_at file at → IsEvent k a n.at (read_event file at)
-  unfolding event_at
-  event_told k a n e = seen_event (read_event file at) k a n e
+  seen_end : (x : Read (Option Event)) → read_event file at ≡ x → (n : ℕ) → seen_by (Ok None) n ≡ seen_at at x → read_event file at ≡ had none n
+  seen_end (had none m) f n s = f ∙ ap (λ (p : ℕ). had none p) (sym (ap (λ (t : Seen). t.next) s))
+  seen_end (had (some v) m) f n s = never (let h = ap (λ (t : Seen). t.event) s in cc)
+  seen_end (refused b p) f n s = absurd (omega (arith, event_refused file at b p f, ap (λ (t : Seen). t.answer) s))
 
-  pub end_told : (n : Cursor) → seen (got.End n) ≡ event_at file at → read_event file at ≡ had none n.at
-  unfolding event_at
-  end_told n e = go (read_event file at) refl e
-    where
-      go : (x : Read (Option Event)) → read_event file at ≡ x → seen (got.End n) ≡ seen_at at x → read_event file at ≡ had none n.at
-      go (had none m) f g = f ∙ ap (λ (p : ℕ). had none p) (sym (ap (λ (s : Seen). s.next) g))
-      go (had (some v) m) f g = never (let h = ap (λ (s : Seen). s.event) g in cc)
-      go (refused b p) f g = absurd (omega (arith, event_refused file at b p f, ap (λ (s : Seen). s.answer) g))
+  seen_spoilt : (x : Read (Option Event)) → read_event file at ≡ x → (p : Spoilt) (n : ℕ) → seen_by (Err p) n ≡ seen_at at x
+      → (read_event file at ≡ refused answers.spoilt p.place) × (n ≡ at)
+  seen_spoilt (had none m) f p n s = absurd (omega (arith, ap (λ (t : Seen). t.answer) s))
+  seen_spoilt (had (some v) m) f p n s = absurd (omega (arith, ap (λ (t : Seen). t.answer) s))
+  seen_spoilt (refused b q) f p n s =
+      let answer = ap (λ (t : Seen). t.answer) s in
+      let place = ap (λ (t : Seen). t.place) s in
+      (f ∙ ap (λ (a : ℕ). refused a q) (sym answer) ∙ ap (λ (a : ℕ). refused answers.spoilt a) (sym place), ap (λ (t : Seen). t.next) s)
 
-  pub spoilt_told : (p : ℕ) (n : Cursor) → seen (got.Spoilt p n) ≡ event_at file at → (read_event file at ≡ refused answers.spoilt p) × (n.at ≡ at)
-  unfolding event_at
-  spoilt_told p n e = go (read_event file at) refl e
-    where
-      go : (x : Read (Option Event)) → read_event file at ≡ x → seen (got.Spoilt p n) ≡ seen_at at x
-          → (read_event file at ≡ refused answers.spoilt p) × (n.at ≡ at)
-      go (had none m) f g = absurd (omega (arith, ap (λ (s : Seen). s.answer) g))
-      go (had (some v) m) f g = absurd (omega (arith, ap (λ (s : Seen). s.answer) g))
-      go (refused b q) f g =
-          let answer = ap (λ (s : Seen). s.answer) g in
-          let place = ap (λ (s : Seen). s.place) g in
-          (f ∙ ap (λ (a : ℕ). refused a q) (sym answer) ∙ ap (λ (a : ℕ). refused answers.spoilt a) (sym place), ap (λ (s : Seen). s.next) g)
+  module _ (g : Got) (s : seen g ≡ event_at file at) where
+    pub event_told : (e : FileEvent) → g.event ≡ Ok (Some e) → IsEvent e.kind e.argument g.next.at (read_event file at)
+    unfolding event_at
+    event_told e q = seen_event (read_event file at) e g.next.at (ap (λ x. seen_by x g.next.at) (sym q) ∙ s)
+
+    pub end_told : g.event ≡ Ok None → read_event file at ≡ had none g.next.at
+    unfolding event_at
+    end_told q = seen_end (read_event file at) refl g.next.at (ap (λ x. seen_by x g.next.at) (sym q) ∙ s)
+
+    pub spoilt_told : (p : Spoilt) → g.event ≡ Err p → (read_event file at ≡ refused answers.spoilt p.place) × (g.next.at ≡ at)
+    unfolding event_at
+    spoilt_told p q = seen_spoilt (read_event file at) refl p g.next.at (ap (λ x. seen_by x g.next.at) (sym q) ∙ s)
 
 -- ---- a header
 numbers_refused : (k : ℕ) (file : List ℕ) (at answer place : ℕ) → read_numbers k file at ≡ refused answer place → answer ≡ answers.spoilt
@@ -137,7 +140,7 @@ header_refused file at answer place e z =
     spoilt p f = omega (arith, (number_place file p answer place f).0)
 
 module _ (file : List ℕ) (at : ℕ) (r : Headed) (p : HeaderPost at (read_header file at) r) where
-  pub accepted_told : r.answer ≡ answers.done
+  pub accepted_told : answer_in r.outcome ≡ answers.done
       → (h : Header) × (read_header file at ≡ had h r.next.at) × (view r.network ≡ (opening h).state)
   accepted_told z = go (read_header file at) refl p.outcome
     where
@@ -146,13 +149,13 @@ module _ (file : List ℕ) (at : ℕ) (r : Headed) (p : HeaderPost at (read_head
       go (had h n) f g = (h, f ∙ ap (λ (m : ℕ). had h m) (sym (ap (λ (s : HeaderSeen). s.next) g)), ap (λ (s : HeaderSeen). s.state) g)
       go (refused b q) f g = absurd (header_refused file at b q f (sym (ap (λ (s : HeaderSeen). s.answer) g) ∙ z))
 
-  pub refused_told : (r.answer ≡ answers.done → ⊥) → (read_header file at ≡ refused r.answer r.place) × (r.next.at ≡ at)
+  pub refused_told : (answer_in r.outcome ≡ answers.done → ⊥) → (read_header file at ≡ refused (answer_in r.outcome) (place_in r.outcome)) × (r.next.at ≡ at)
   refused_told n = go (read_header file at) refl p.outcome
     where
       go : (x : Read Header) → read_header file at ≡ x → seen_header r ≡ header_seen at x
-          → (read_header file at ≡ refused r.answer r.place) × (r.next.at ≡ at)
+          → (read_header file at ≡ refused (answer_in r.outcome) (place_in r.outcome)) × (r.next.at ≡ at)
       go (had h m) f g = absurd (n (ap (λ (s : HeaderSeen). s.answer) g))
       go (refused b q) f g =
           let answer = ap (λ (s : HeaderSeen). s.answer) g in
           let place = ap (λ (s : HeaderSeen). s.place) g in
-          (f ∙ ap (λ (a : ℕ). refused a q) (sym answer) ∙ ap (λ (a : ℕ). refused r.answer a) (sym place), ap (λ (s : HeaderSeen). s.next) g)
+          (f ∙ ap (λ (a : ℕ). refused a q) (sym answer) ∙ ap (λ (a : ℕ). refused (answer_in r.outcome) a) (sym place), ap (λ (s : HeaderSeen). s.next) g)

@@ -11,9 +11,11 @@ use Rattle.model.specs.Events.{Event}
 use Rattle.model.specs.Number.{had}
 use Rattle.model.specs.File.{kind, argument, read_event, and_more, read_events}
 use Rattle.model.proofs.Had.{event_moves, unfueled}
-use Rattle.entries.specs.declared.answers.Cursor.{Cursor}
-use Rattle.entries.specs.declared.answers.Got.TheVariants as got
+use Rattle.groups.specs.declared.answers.Spoilt.{Spoilt}
+use Rattle.entries.specs.declared.answers.Event.{Event as FileEvent}
+use Rattle.entries.specs.declared.answers.Got.{Got}
 use Rattle.entries.specs.Outcomes.{seen, event_at}
+use Rattle.std.specs.Prelude.{None, Some, Ok, Err}
 use Rattle.reader.proofs.Told.{event_told, end_told, spoilt_told}
 use Rattle.replay.specs.declared.chunk.Stop.{Stop}
 use Rattle.replay.specs.declared.chunk.Gathered.{Gathered}
@@ -51,12 +53,12 @@ module _ (file : List ℕ) (at : ℕ) where
   reads_event : (e : Event) (next : ℕ) → read_event file at ≡ had (some e) next → read_events file at ≡ behind (e ∷ []) (read_events file next)
   reads_event e next h = unfueled file at ∙ ap (λ x. and_more x (λ p. read_events file p)) h
 
-  pub reads_end : (n : Cursor) → seen (got.End n) ≡ event_at file at → read_events file at ≡ record { events = []; spoilt = none }
-  reads_end n h = unfueled file at ∙ ap (λ x. and_more x (λ p. read_events file p)) (end_told file at n h)
+  module _ (g : Got) (h : seen g ≡ event_at file at) where
+    pub reads_end : g.event ≡ Ok None → read_events file at ≡ record { events = []; spoilt = none }
+    reads_end q = unfueled file at ∙ ap (λ x. and_more x (λ p. read_events file p)) (end_told file at g h q)
 
-  pub reads_spoilt : (place : ℕ) (n : Cursor) → seen (got.Spoilt place n) ≡ event_at file at
-      → read_events file at ≡ record { events = []; spoilt = some place }
-  reads_spoilt place n h = unfueled file at ∙ ap (λ x. and_more x (λ p. read_events file p)) (spoilt_told file at place n h).0
+    pub reads_spoilt : (p : Spoilt) → g.event ≡ Err p → read_events file at ≡ record { events = []; spoilt = some p.place }
+    reads_spoilt p q = unfueled file at ∙ ap (λ x. and_more x (λ n. read_events file n)) (spoilt_told file at g h p q).0
 
 module _ (file : List ℕ) (from most : ℕ) where
   pub gathers_none : (kinds arguments : List ℕ) → from ≤ length file → most ≤ chunk → length kinds ≡ chunk → length arguments ≡ chunk
@@ -75,30 +77,38 @@ module _ (file : List ℕ) (from most : ℕ) where
         reads = refl;
       }
 
-  pub gathers_more : (kinds arguments : List ℕ) (i at k a : ℕ) (n : Cursor) → Gathers file from most kinds arguments i at → i < most
-      → seen (got.Event k a n) ≡ event_at file at → Gathers file from most (set kinds i k) (set arguments i a) (i + 1) n.at
-  gathers_more kinds arguments i at k a n g h s =
-      let t = event_told file at k a n s in
+  pub gathers_more : (kinds arguments : List ℕ) (i at : ℕ) {got : Got} (read : FileEvent) → Gathers file from most kinds arguments i at → i < most
+      → seen got ≡ event_at file at → got.event ≡ Ok (Some read)
+      → Gathers file from most (set kinds i read.kind) (set arguments i read.argument) (i + 1) got.next.at
+  gathers_more kinds arguments i at {got} read g h s q =
+      let t = event_told file at got s read q in
       let e = t.0 in
       let es = g.events in
-      let m = event_moves file at e n.at t.1 in
+      let m = event_moves file at e got.next.at t.1 in
       let here : 0 + length es ≡ i = omega (arith, g.many) in
       record {
         events = es ++ (e ∷ []);
         many = length-append es (e ∷ []) ∙ omega (arith, g.many);
         few = omega arith;
         short = g.short;
-        kinds_size = length-set kinds i k ∙ g.kinds_size;
-        arguments_size = length-set arguments i a ∙ g.arguments_size;
+        kinds_size = length-set kinds i read.kind ∙ g.kinds_size;
+        arguments_size = length-set arguments i read.argument ∙ g.arguments_size;
         moved = omega (arith, m.0, g.moved);
         inside = m.1;
-        stand = stand_last es e (set kinds i k) (set arguments i a) 0 (stand_set es kinds arguments 0 i k a (omega arith) g.stand)
-            (ap (λ j. get_or (set kinds i k) j 0) here ∙ get_or-set_same kinds i k 0 (omega (arith, g.kinds_size, g.short)) ∙ sym t.2)
-            (ap (λ j. get_or (set arguments i a) j 0) here ∙ get_or-set_same arguments i a 0 (omega (arith, g.arguments_size, g.short)) ∙ sym t.3);
+        stand = stand_last es e (set kinds i read.kind) (set arguments i read.argument) 0 (stand_set es kinds arguments 0 i read.kind read.argument (omega arith) g.stand)
+            (ap (λ j. get_or (set kinds i read.kind) j 0) here ∙ get_or-set_same kinds i read.kind 0 (omega (arith, g.kinds_size, g.short)) ∙ sym t.2)
+            (ap (λ j. get_or (set arguments i read.argument) j 0) here ∙ get_or-set_same arguments i read.argument 0 (omega (arith, g.arguments_size, g.short)) ∙ sym t.3);
         reads = g.reads
-            ∙ ap (behind es) (reads_event file at e n.at t.1)
-            ∙ ap (λ l. record { events = l; spoilt = (read_events file n.at).spoilt }) (sym (append_assoc es (e ∷ []) (read_events file n.at).events));
+            ∙ ap (behind es) (reads_event file at e got.next.at t.1)
+            ∙ ap (λ l. record { events = l; spoilt = (read_events file got.next.at).spoilt }) (sym (append_assoc es (e ∷ []) (read_events file got.next.at).events));
       }
+
+-- no more than so many
+pub gathers_all : {file kinds arguments : List ℕ} {from most at : ℕ} (i : ℕ) → Gathers file from most kinds arguments i at → most ≤ i
+    → Gathers file from most kinds arguments most at
+gathers_all {file} {kinds} {arguments} {from} {most} {at} i g h =
+    let all : i ≡ most = omega (arith, g.few) in
+    subst (λ (n : ℕ). Gathers file from most kinds arguments n at) all g
 
 pub gathered : {file kinds arguments : List ℕ} {from most count next : ℕ} {r : Gathered} (stop : Stop) → r ≡ stopped_at count next stop
     → Gathers file from most kinds arguments count next → Stopped file most count next stop → GatherPost file from most kinds arguments r

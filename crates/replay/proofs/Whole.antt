@@ -14,6 +14,10 @@ use Rattle.model.specs.Text.{refused_line, drill_text, text_from, drill_output}
 use Rattle.model.proofs.Opened.{opening_formed}
 use Rattle.model.proofs.Had.{header_moves}
 use Rattle.model.proofs.TextFits.{text_fits}
+use Rattle.std.specs.Prelude.{Err}
+use Rattle.entries.specs.declared.answers.Refusal.{Refusal}
+use Rattle.entries.specs.Outcomes.{answer_of, place_of, answer_in, place_in}
+use Rattle.drillfile.proofs.HeaderRead.{not_done}
 use Rattle.drillfile.specs.declared.answers.Headed.{Headed}
 use Rattle.drillfile.specs.Headers.{HeaderPost}
 use Rattle.groups.proofs.Stores.{sets_front}
@@ -48,10 +52,18 @@ module _ (file : List ℕ) where
     long h = say (too_long h) whole
 
     module _ (short : length file ≤ file_most) (r : Headed) (p : HeaderPost 0 (read_header file 0) r) where
-      pub no_header : (r.answer ≡ answers.done → ⊥) → Pending out 0 (drill_output file) out 0 (refused_line r.answer r.place)
-      no_header n = say (by_header short ∙ ap (text_from file) (refused_told file 0 r p n).0) whole
+      pub no_header : (refusal : Refusal) → r.outcome ≡ Err refusal → {answer place : ℕ} → answer ≡ answer_of refusal → place ≡ place_of refusal
+          → Pending out 0 (drill_output file) out 0 (refused_line answer place)
+      no_header refusal e f g =
+          let t = refused_told file 0 r p (λ z. not_done refusal (sym (ap answer_in e) ∙ z)) in
+          say
+          (by_header short
+          ∙ ap (text_from file) t.0
+          ∙ (λ i. refused_line (answer_in (e i)) (place_in (e i)))
+          ∙ (λ i. refused_line (sym f i) (sym g i)))
+          whole
 
-      module _ (z : r.answer ≡ answers.done) where
+      module _ (z : answer_in r.outcome ≡ answers.done) where
         pub header : Pending out 0 (drill_output file) out 0 (text_of file r.next.at r.network)
         header =
             let t = accepted_told file 0 r p z in

@@ -2,7 +2,6 @@
 ghost use Rattle.std.specs.Prelude.{◌≡◌, ◌≤◌, length};
 ghost use Rattle.replay.specs.Chunks.{chunk, stopped_at, GatherPost};
 
-use drillfile::Got;
 use letters::THOUSAND;
 
 // The ordinals of a chunk have the same thousands.
@@ -41,22 +40,17 @@ pub(crate) fn gather(
     ensures { GatherPost file.now from most kinds.new arguments.new result }
 {
     let mut at = from;
-    let mut i: usize = 0;
-    while i < most {
-        match reader::next_at(file, at) {
-            Got::Event {
-                kind,
-                argument,
-                next,
-            } => {
-                kinds[i] = kind;
-                arguments[i] = argument;
-                at = next.at;
-                i += 1;
+    for i in 0..most {
+        let got = reader::next_at(file, at);
+        match got.event {
+            Ok(Some(event)) => {
+                kinds[i] = event.kind;
+                arguments[i] = event.argument;
+                at = got.next.at;
             }
-            Got::End(_) => return stopped(i, at, Stop::End),
-            Got::Spoilt(place, _) => return stopped(i, at, Stop::Spoilt(place)),
+            Ok(None) => return stopped(i, at, Stop::End),
+            Err(spoilt) => return stopped(i, at, Stop::Spoilt(spoilt.place)),
         }
     }
-    stopped(i, at, Stop::More)
+    stopped(most, at, Stop::More)
 }

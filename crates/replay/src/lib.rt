@@ -7,8 +7,6 @@ mod run;
 
 ghost use Rattle.replay.specs.Texts.{TextPost};
 
-const DONE: u32 = 0;
-
 // The text of a file's bytes, at the front of a part that holds any text; the bytes after it stay.
 pub fn text(file: &[u8], out: &mut [u8; model::TEXT_MOST]) -> usize
     ensures { TextPost file.now out.old out.new result }
@@ -17,9 +15,8 @@ pub fn text(file: &[u8], out: &mut [u8; model::TEXT_MOST]) -> usize
         return lines::refused(out, 0, lines::SPOILT, model::FILE);
     }
     let header = reader::header_of(file);
-    let answer = header.answer;
-    if answer != DONE {
-        return lines::refused(out, 0, answer as usize, header.place);
+    if let Err(refusal) = header.outcome {
+        return lines::refused(out, 0, refusal.answer() as usize, refusal.place());
     }
     let next = header.next;
     let table = letters::rows();

@@ -4,7 +4,6 @@
 ghost use Rattle.std.specs.Prelude.{◌≡◌, ◌+◌, length};
 ghost use Rattle.model.specs.Limits.{file_most};
 
-use drillfile::Got;
 use model::{Handled, Went};
 use network::Network;
 use std::io;
@@ -73,16 +72,12 @@ fn calls(file: &[u8], from: usize, opened: Network) -> usize {
     let mut left = INPUT;
     while 0 < left {
         left -= 1;
-        let Got::Event {
-            kind,
-            argument,
-            next,
-        } = reader::next_at(file, at)
-        else {
+        let got = reader::next_at(file, at);
+        let Ok(Some(event)) = got.event else {
             return sum;
         };
-        at = next.at;
-        let a = index(argument);
+        at = got.next.at;
+        let a = index(event.argument);
         let m = lent::apply(
             &opened.node,
             &mut live,
@@ -98,7 +93,7 @@ fn calls(file: &[u8], from: usize, opened: Network) -> usize {
             opened.destination,
             opened.links,
             tally,
-            kind,
+            event.kind,
             a,
         );
         let handled = m.handled;

@@ -9,12 +9,12 @@ use Rattle.entries.proofs.write_event.Goals as goal
 pub returns-then-not-is_kind : goal.returns-then-not-is_kind
 returns-then-not-is_kind c =
     unknown c.args.kind c.args.argument c.args.out.now
-    (sym c.is_kind.ensures ∙ c.if-not-is_kind.true) c.refused.ensures
+    (sym c.is_kind.ensures ∙ c.if-not-is_kind.true)
 
 pub returns-then-argument-gt-NUMBER : goal.returns-then-argument-gt-NUMBER
 returns-then-argument-gt-NUMBER c =
     too_large c.args.kind c.args.argument c.args.out.now
-    (sym c.is_kind.ensures ∙ c.if-not-is_kind.false) c.if-argument-gt-NUMBER.true c.refused-then-argument-gt-NUMBER.ensures
+    (sym c.is_kind.ensures ∙ c.if-not-is_kind.false) c.if-argument-gt-NUMBER.true
 
 pub width-first-requires : goal.width-first-requires
 width-first-requires c = known_small c.args.kind (sym c.is_kind.ensures ∙ c.if-not-is_kind.false)
@@ -29,7 +29,7 @@ pub returns-then-out-count : goal.returns-then-out-count
 returns-then-out-count c =
     too_short c.args.kind c.args.argument c.args.out.now
     (sym c.is_kind.ensures ∙ c.if-not-is_kind.false) (omega arith) c.width-first.ensures
-    c.width.ensures c.if-out-count.true c.refused-then-out-count.ensures
+    c.width.ensures c.if-out-count.true
 
 pub put_number-requires : goal.put_number-requires
 put_number-requires c =

@@ -1,20 +1,15 @@
--- By how many groups the number has. Assumes nothing.
-use Rattle.groups.proofs.Splitting.{too_large, one, two, three}
+-- A number over the largest has no bytes; of another they are the shortest. Assumes nothing.
+use mathlib.Core.Path.{ap}
+use mathlib.Core.Option.{some}
+use borrow.Author.Tests.{le-leb, lt-leb}
+use Rattle.model.specs.Limits.{number_most}
+use Rattle.groups.specs.Numbers.{write_number}
 use Rattle.groups.proofs.split.Goals as goal
 
 pub returns-then-value-gt-NUMBER : goal.returns-then-value-gt-NUMBER
-returns-then-value-gt-NUMBER c = too_large c.args.value c.if-value-gt-NUMBER.true
-
-pub returns-then-high-eq0 : goal.returns-then-high-eq0
-returns-then-high-eq0 c =
-    one c.args.value c.if-value-gt-NUMBER.false _ _ c.rest-high.ensures c.if-high-eq0.true c.last.ensures
-
-pub returns-then-top-eq0 : goal.returns-then-top-eq0
-returns-then-top-eq0 c =
-    two c.args.value c.if-value-gt-NUMBER.false _ _ c.rest-high.ensures c.if-high-eq0.false c.more.ensures
-    _ _ c.rest-top.ensures c.if-top-eq0.true c.last-then-top-eq0.ensures
+unfolding write_number
+returns-then-value-gt-NUMBER c = rw (lt-leb c.args.value number_most c.if-value-gt-NUMBER.true)
 
 pub returns : goal.returns
-returns c =
-    three c.args.value c.if-value-gt-NUMBER.false _ _ c.rest-high.ensures c.if-high-eq0.false c.more-2.ensures
-    _ _ _ c.rest-top.ensures c.if-top-eq0.false c.more-3.ensures c.last-2.ensures
+unfolding write_number
+returns c = rw (le-leb c.args.value number_most c.if-value-gt-NUMBER.false) (ap some c.shortest.ensures)
