@@ -90,25 +90,17 @@ lone_view =
 abbrev pub fixed : Network → ℕ → ℕ → ℕ → List ℕ → List Bool → List Bool → List Bool → Network
 fixed n nodes destination links node live out mark =
     record {
-      node = node;
-      live = live;
-      out = out;
-      local = n.local;
-      remote = n.remote;
-      mark = mark;
-      turns = n.turns;
-      number = n.number;
-      lane = n.lane;
-      bit = n.bit;
-      nodes = nodes;
-      destination = destination;
-      links = links;
-      flying = n.flying;
-      events = n.events;
-      admitted = n.admitted;
-      delivered = n.delivered;
-      lost = n.lost;
-      stranded = n.stranded;
+      plan = record { node = node; nodes = nodes; destination = destination; links = links };
+      arrows = record {
+        live = live;
+        out = out;
+        local = n.arrows.local;
+        remote = n.arrows.remote;
+        mark = mark;
+        turns = n.arrows.turns;
+      };
+      flight = n.flight;
+      tally = n.tally;
     }
 
 module _ (nodes destination : ℕ) (list : List ℕ) (even : length list ≡ 2 * links_in list) (most : links_in list ≤ links_most) where

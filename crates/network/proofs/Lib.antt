@@ -1,4 +1,3 @@
-pub mod Seen
 pub mod Remade
 pub mod Filled
 pub mod Openings

@@ -11,7 +11,6 @@ use Rattle.model.specs.File.{of_kind}
 use Rattle.departs.specs.declared.tally.Step.{Step}
 use Rattle.lent.proofs.apply.Kinds as lent_kinds
 use Rattle.lent.proofs.apply.Reads as lent
-use Rattle.lent.proofs.OneOutcome.{left}
 use Rattle.network.specs.declared.opening.Opened.{Opened}
 use Rattle.network.specs.declared.record.Network.{Network}
 use Rattle.network.specs.declared.record.Moved.{Moved}
@@ -54,39 +53,15 @@ pub apply_runs : (κs : Lfts 0) (a : Dens κs apply_kinds.ps) (r : Moved) (x : A
     → apply.Post κs a r x → (es : List Event) → Run a.0 es → Run r.network (es ++ event_if (of_kind a.1.0) a.1.1.0)
 apply_runs κs a r x p es h = applied a.0 es h a.1.0 a.1.1.0 r p
 
--- and so does a call in place, on the record that the lent arrays make
-abbrev pub lent_as : (κs : Lfts 10) → Dens κs lent_kinds.ps → Network
-lent_as κs a =
-    let b = a.1 in
-    let sizes = b.1.1.1.1.1.1.1.1.1 in
-    let t = sizes.1.1.1.0 in
-    record {
-      node = a.0.now;
-      live = b.0.now;
-      out = b.1.0.now;
-      local = b.1.1.0.now;
-      remote = b.1.1.1.0.now;
-      mark = b.1.1.1.1.0.now;
-      turns = b.1.1.1.1.1.0.now;
-      number = b.1.1.1.1.1.1.0.now;
-      lane = b.1.1.1.1.1.1.1.0.now;
-      bit = b.1.1.1.1.1.1.1.1.0.now;
-      nodes = sizes.0;
-      destination = sizes.1.0;
-      links = sizes.1.1.0;
-      flying = t.flying;
-      events = t.events;
-      admitted = t.admitted;
-      delivered = t.delivered;
-      lost = t.lost;
-      stranded = t.stranded;
-    }
+-- and so does a call in place, on the record that the lent parts make
+abbrev pub lent_as : (κs : Lfts 3) → Dens κs lent_kinds.ps → Network
+lent_as κs a = record { plan = a.0.now; arrows = a.1.0.now; flight = a.1.1.0.now; tally = a.1.1.1.0 }
 
-pub lent_runs : (κs : Lfts 10) (a : Dens κs lent_kinds.ps) (r : Step) (x : AtExit (ended_of 10 lent_kinds.ps lent_kinds.r) κs)
+pub lent_runs : (κs : Lfts 3) (a : Dens κs lent_kinds.ps) (r : Step) (x : AtExit (ended_of 3 lent_kinds.ps lent_kinds.r) κs)
     → lent.Post κs a r x → (es : List Event) → Run (lent_as κs a) es
-    → let call = a.1.1.1.1.1.1.1.1.1.1.1.1.1.1 in
-    Run (remade (lent_as κs a) (left κs x) r.tally) (es ++ event_if (of_kind call.0) call.1.0)
+    → let call = a.1.1.1.1 in
+    Run (remade (lent_as κs a) call.0 call.1.0 x.1.0.now x.1.1.0.now r) (es ++ event_if (of_kind call.0) call.1.0)
 lent_runs κs a r x p es h =
-    let call = a.1.1.1.1.1.1.1.1.1.1.1.1.1.1 in
-    applied (lent_as κs a) es h call.0 call.1.0 (moved (lent_as κs a) call.0 call.1.0 (left κs x) r)
-    (called (lent_as κs a) call.0 call.1.0 (left κs x) r p)
+    let n = lent_as κs a in
+    let call = a.1.1.1.1 in
+    applied n es h call.0 call.1.0 (moved n call.0 call.1.0 x.1.0.now x.1.1.0.now r) (called n call.0 call.1.0 x.1.0.now x.1.1.0.now r p)

@@ -11,25 +11,17 @@ use Rattle.arrays.specs.Flight.{slots}
 unfoldable pub lone_network : Network
 lone_network =
     record {
-      node = replicate ends_most 0;
-      live = replicate links_most false;
-      out = replicate ends_most false;
-      local = replicate ends_most false;
-      remote = replicate ends_most false;
-      mark = replicate ends_most false;
-      turns = replicate nodes_most 0;
-      number = replicate slots 0;
-      lane = replicate slots 0;
-      bit = replicate slots false;
-      nodes = 1;
-      destination = 0;
-      links = 0;
-      flying = 0;
-      events = 0;
-      admitted = 0;
-      delivered = 0;
-      lost = 0;
-      stranded = 0;
+      plan = record { node = replicate ends_most 0; nodes = 1; destination = 0; links = 0 };
+      arrows = record {
+        live = replicate links_most false;
+        out = replicate ends_most false;
+        local = replicate ends_most false;
+        remote = replicate ends_most false;
+        mark = replicate ends_most false;
+        turns = replicate nodes_most 0;
+      };
+      flight = record { number = replicate slots 0; lane = replicate slots 0; bit = replicate slots false };
+      tally = record { flying = 0; events = 0; admitted = 0; delivered = 0; lost = 0; stranded = 0 };
     }
 
 abbrev pub refusal : ℕ → ℕ → Opened

@@ -15,7 +15,7 @@ ghost use Rattle.network.specs.Opening.{OpenPost};
 ghost use Rattle.steps.specs.Call.{call};
 ghost use Rattle.network.specs.Calls.{CallPost};
 
-use arrays::Tally;
+pub use arrays::{Arrows, Flight, Plan, Tally};
 use formed::formed;
 use model::{DELIVER, FAIL, LOSE, SEND};
 pub use opening::Opened;
@@ -27,105 +27,35 @@ impl Network {
     pub fn tally(self) -> Tally
         ensures { result ≡ tally_of self }
     {
-        Tally {
-            flying: self.flying,
-            events: self.events,
-            admitted: self.admitted,
-            delivered: self.delivered,
-            lost: self.lost,
-            stranded: self.stranded,
-        }
+        self.tally
     }
 
     // "A record is well formed when .."
     pub fn well_formed(self) -> bool
         ensures { result ≡ well_formed (view self) }
     {
-        let tally = self.tally();
-        formed(
-            &self.node,
-            &self.live,
-            &self.out,
-            &self.mark,
-            &self.turns,
-            &self.number,
-            &self.lane,
-            self.nodes,
-            self.destination,
-            self.links,
-            tally,
-        )
+        formed(&self.plan, &self.arrows, &self.flight, self.tally)
     }
 
     // An event by its kind and argument; a kind that is none is refused with 6, after 1 and 5.
     pub fn apply(self, kind: u32, argument: usize) -> Moved
         ensures { CallPost self (call (view self) kind argument) result }
     {
-        // not by `tally`, which would take a copy of the record
-        let tally = Tally {
-            flying: self.flying,
-            events: self.events,
-            admitted: self.admitted,
-            delivered: self.delivered,
-            lost: self.lost,
-            stranded: self.stranded,
-        };
-        let mut live = self.live;
-        let mut out = self.out;
-        let mut local = self.local;
-        let mut remote = self.remote;
-        let mut mark = self.mark;
-        let mut turns = self.turns;
-        let mut number = self.number;
-        let mut lane = self.lane;
-        let mut bit = self.bit;
-        let r = lent::apply(
-            &self.node,
-            &mut live,
-            &mut out,
-            &mut local,
-            &mut remote,
-            &mut mark,
-            &mut turns,
-            &mut number,
-            &mut lane,
-            &mut bit,
-            self.nodes,
-            self.destination,
-            self.links,
-            tally,
+        let mut next = self;
+        let step = lent::apply(
+            &self.plan,
+            &mut next.arrows,
+            &mut next.flight,
+            self.tally,
             kind,
             argument,
         );
-        let t = r.tally;
-        let answer = r.answer;
-        let handled = r.handled;
-        let went = r.went;
+        next.tally = step.tally;
         Moved {
-            network: Network {
-                node: self.node,
-                live,
-                out,
-                local,
-                remote,
-                mark,
-                turns,
-                number,
-                lane,
-                bit,
-                nodes: self.nodes,
-                destination: self.destination,
-                links: self.links,
-                flying: t.flying,
-                events: t.events,
-                admitted: t.admitted,
-                delivered: t.delivered,
-                lost: t.lost,
-                stranded: t.stranded,
-            },
-            answer,
-            handled,
-            went,
+            network: next,
+            answer: step.answer,
+            handled: step.handled,
+            went: step.went,
         }
     }
 

@@ -6,7 +6,7 @@ ghost use Rattle.network.specs.View.{view};
 ghost use Rattle.network.specs.Opening.{lone_network, refusal};
 
 use crate::record::Network;
-use arrays::SLOTS;
+use arrays::{Arrows, Flight, Plan, SLOTS, Tally};
 use pairs::{live_of, nodes_of, side_of};
 
 // The numbers of an opening's refusals.
@@ -28,34 +28,41 @@ fn lone() -> Network
     ensures { result ≡ lone_network }
 {
     Network {
-        node: [0; model::ENDS],
-        live: [false; model::LINKS],
-        out: [false; model::ENDS],
-        local: [false; model::ENDS],
-        remote: [false; model::ENDS],
-        mark: [false; model::ENDS],
-        turns: [0; model::NODES],
-        number: [0; SLOTS],
-        lane: [0; SLOTS],
-        bit: [false; SLOTS],
-        nodes: 1,
-        destination: 0,
-        links: 0,
-        flying: 0,
-        events: 0,
-        admitted: 0,
-        delivered: 0,
-        lost: 0,
-        stranded: 0,
+        plan: Plan {
+            node: [0; model::ENDS],
+            nodes: 1,
+            destination: 0,
+            links: 0,
+        },
+        arrows: Arrows {
+            live: [false; model::LINKS],
+            out: [false; model::ENDS],
+            local: [false; model::ENDS],
+            remote: [false; model::ENDS],
+            mark: [false; model::ENDS],
+            turns: [0; model::NODES],
+        },
+        flight: Flight {
+            number: [0; SLOTS],
+            lane: [0; SLOTS],
+            bit: [false; SLOTS],
+        },
+        tally: Tally {
+            flying: 0,
+            events: 0,
+            admitted: 0,
+            delivered: 0,
+            lost: 0,
+            stranded: 0,
+        },
     }
 }
 
 pub(crate) fn refused(answer: u32, place: usize) -> Opened
     ensures { result ≡ refusal answer place }
 {
-    let network = lone();
     Opened {
-        network,
+        network: lone(),
         answer,
         place,
     }
@@ -67,17 +74,20 @@ pub(crate) fn filled(nodes: usize, destination: usize, list: &[u32]) -> Network
     ensures { view result ≡ opened nodes destination list.now }
 {
     let links = list.len() / 2;
-    let node = nodes_of(list);
-    let live = live_of(links);
-    let out = side_of(links, 0);
-    let mark = side_of(links, 1);
-    let mut n = lone();
-    n.node = node;
-    n.live = live;
-    n.out = out;
-    n.mark = mark;
-    n.nodes = nodes;
-    n.destination = destination;
-    n.links = links;
-    n
+    let lone = lone();
+    Network {
+        plan: Plan {
+            node: nodes_of(list),
+            nodes,
+            destination,
+            links,
+        },
+        arrows: Arrows {
+            live: live_of(links),
+            out: side_of(links, 0),
+            mark: side_of(links, 1),
+            ..lone.arrows
+        },
+        ..lone
+    }
 }
