@@ -3,6 +3,7 @@ use Rattle.std.specs.Prelude.{ℕ, suc, ◌*◌, ◌/◌, ◌<◌, ◌≤◌, �
 use Rattle.model.specs.Limits.{ends_most, flight_most}
 use Rattle.model.specs.State.{Packet}
 use Rattle.arrays.specs.Flight.{packets}
+use Rattle.packets.specs.Moves.{Stay}
 use Rattle.queues.specs.declared.queue.Queues.{Queues}
 
 -- slots of a burst; as a slot's number it says that there is none
@@ -43,10 +44,31 @@ pub record InOrder (lane first last after : List ℕ) (used : ℕ) : Type 0 wher
 abbrev pub Queued : Queues → Type 0
 Queued q = InOrder q.lane q.first q.last q.after q.used
 
+-- other lanes in the slots, and other firsts
+abbrev pub relaned : Queues → List ℕ → List ℕ → Queues
+relaned q lane first = record { number = q.number; lane = lane; bit = q.bit; first = first; last = q.last; after = q.after; used = q.used }
+
+-- the same packets in other queues
+abbrev pub requeued : Queues → List ℕ → List ℕ → List ℕ → Queues
+requeued q first last after =
+    record { number = q.number; lane = q.lane; bit = q.bit; first = first; last = last; after = after; used = q.used }
+
+-- the same queues, other packets in so many slots
+abbrev pub refilled : Queues → List ℕ → List ℕ → List Bool → ℕ → Queues
+refilled q number lane bit used =
+    record { number = number; lane = lane; bit = bit; first = q.first; last = q.last; after = q.after; used = used }
+
 -- a lane with no slot keeps its last, and the slots from k on keep what comes after them
 pub record Idle (k : ℕ) (first last after last' after' : List ℕ) : Type 0 where
   pub lasts : (x : ℕ) → get_or first x 0 ≡ room → get_or last' x 0 ≡ get_or last x 0
   pub afters : (j : ℕ) → k ≤ j → get_or after' j 0 ≡ get_or after j 0
+
+abbrev pub Idles : ℕ → Queues → Queues → Type 0
+Idles k q q' = Idle k q'.first q.last q.after q'.last q'.after
+
+-- the slots from k on keep their packets
+abbrev pub Kept : ℕ → Queues → Queues → Type 0
+Kept k q q' = Stay k q.number q.lane q.bit q'.number q'.lane q'.bit
 
 -- the packet n comes into the next slot: behind the last of lane x, or as its first
 pub record Pushed (q : Queues) (n x : ℕ) (b : Bool) (q' : Queues) : Type 0 where

@@ -3,7 +3,7 @@ ghost use Rattle.std.specs.Prelude.{◌≡◌, [], ◌∷◌, ◌++◌, ◌+◌,
 ghost use Rattle.model.specs.Limits.{links_most, ends_most};
 ghost use Rattle.model.specs.Lanes.{less};
 ghost use Rattle.model.specs.Fail.{off};
-ghost use Rattle.queues.specs.Queue.{room, no_lane, flown, Queued, Pushed, Emptied};
+ghost use Rattle.queues.specs.Queue.{room, no_lane, flown, Queued, Pushed, Emptied, relaned};
 
 // Slots of a burst; as a slot's number it says that there is none.
 pub const ROOM: usize = 2 * model::FLIGHT;
@@ -31,7 +31,7 @@ impl Queues {
     // The packet in slot i, the first of lane x, goes.
     pub fn take(&mut self, i: usize, x: usize)
         requires { (i < room) × (x < ends_most) }
-        ensures { (Queued self.old → get_or self.old.first x 0 ≡ i → Queued self.new × (flown self.new ≡ less x (flown self.old))) × (self.new ≡ record { number = self.old.number; lane = set self.old.lane i no_lane; bit = self.old.bit; first = set self.old.first x (get_or self.old.after i 0); last = self.old.last; after = self.old.after; used = self.old.used }) }
+        ensures { (Queued self.old → get_or self.old.first x 0 ≡ i → Queued self.new × (flown self.new ≡ less x (flown self.old))) × (self.new ≡ relaned self.old (set self.old.lane i no_lane) (set self.old.first x (get_or self.old.after i 0))) }
     {
         let next = self.after[i];
         self.first[x] = next;
@@ -69,7 +69,7 @@ impl Queues {
     // The packets on link l go, and its lanes' queues with them.
     pub fn cut(&mut self, l: usize)
         requires { (self.old.used ≤ room) × (l < links_most) }
-        ensures { (Queued self.old → Queued self.new) × (flown self.new ≡ off l (flown self.old)) × Emptied l self.old.used self.old.lane self.new.lane × (self.new ≡ record { number = self.old.number; lane = self.new.lane; bit = self.old.bit; first = set (set self.old.first (2 * l) room) (2 * l + 1) room; last = self.old.last; after = self.old.after; used = self.old.used }) }
+        ensures { (Queued self.old → Queued self.new) × (flown self.new ≡ off l (flown self.old)) × Emptied l self.old.used self.old.lane self.new.lane × (self.new ≡ relaned self.old self.new.lane (set (set self.old.first (2 * l) room) (2 * l + 1) room)) }
     {
         empty(&mut self.lane, self.used, l);
         self.first[2 * l] = ROOM as u16;

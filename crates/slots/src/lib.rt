@@ -5,8 +5,8 @@
 ghost use Rattle.std.specs.Prelude.{◌≡◌, ℕ, ◌≤◌, ◌<◌, length, get_or, replicate};
 ghost use Rattle.model.specs.Limits.{ends_most, flight_most};
 ghost use Rattle.arrays.specs.Flight.{packets, flying_in};
-ghost use Rattle.packets.specs.Moves.{Stay, Stays};
-ghost use Rattle.queues.specs.Queue.{room, flown, Queued, Idle};
+ghost use Rattle.packets.specs.Moves.{Stays};
+ghost use Rattle.queues.specs.Queue.{room, flown, Queued, Kept, Idles, requeued, refilled};
 
 use arrays::{Flight, SLOTS};
 use queues::{NO_LANE, Queues, ROOM};
@@ -14,7 +14,7 @@ use queues::{NO_LANE, Queues, ROOM};
 // The packets of a record, slot by slot; so many slots are in use.
 pub fn spread(flight: &Flight, queues: &mut Queues, flying: usize)
     requires { flying ≤ flight_most }
-    ensures { (packets queues.new.number queues.new.lane queues.new.bit flying ≡ flying_in flight.now flying) × ((i : ℕ) → i < flying → get_or queues.new.lane i 0 ≡ get_or flight.now.lane i 0) × Stay flying queues.old.number queues.old.lane queues.old.bit queues.new.number queues.new.lane queues.new.bit × (queues.new ≡ record { number = queues.new.number; lane = queues.new.lane; bit = queues.new.bit; first = queues.old.first; last = queues.old.last; after = queues.old.after; used = flying }) }
+    ensures { (packets queues.new.number queues.new.lane queues.new.bit flying ≡ flying_in flight.now flying) × ((i : ℕ) → i < flying → get_or queues.new.lane i 0 ≡ get_or flight.now.lane i 0) × Kept flying queues.old queues.new × (queues.new ≡ refilled queues.old queues.new.number queues.new.lane queues.new.bit flying) }
 {
     queues.number[..flying].copy_from_slice(&flight.number[..flying]);
     queues.lane[..flying].copy_from_slice(&flight.lane[..flying]);
@@ -44,7 +44,7 @@ pub fn gather(queues: &Queues, flight: &mut Flight) -> usize
 
 // No lane has a first slot.
 pub fn clear(queues: &mut Queues)
-    ensures { queues.new ≡ record { number = queues.old.number; lane = queues.old.lane; bit = queues.old.bit; first = replicate ends_most room; last = queues.old.last; after = queues.old.after; used = queues.old.used } }
+    ensures { queues.new ≡ requeued queues.old (replicate ends_most room) queues.old.last queues.old.after }
 {
     queues.first = [ROOM as u16; model::ENDS];
 }
@@ -52,7 +52,7 @@ pub fn clear(queues: &mut Queues)
 // From the last slot to the first, each becomes the first of its lane's queue.
 pub fn thread_lanes(queues: &mut Queues)
     requires { (queues.old.used ≤ room) × ((i : ℕ) → i < queues.old.used → get_or queues.old.lane i 0 < ends_most) × ((x : ℕ) → x < ends_most → get_or queues.old.first x 0 ≡ room) }
-    ensures { Queued queues.new × Idle queues.old.used queues.new.first queues.old.last queues.old.after queues.new.last queues.new.after × (queues.new ≡ record { number = queues.old.number; lane = queues.old.lane; bit = queues.old.bit; first = queues.new.first; last = queues.new.last; after = queues.new.after; used = queues.old.used }) }
+    ensures { Queued queues.new × Idles queues.old.used queues.old queues.new × (queues.new ≡ requeued queues.old queues.new.first queues.new.last queues.new.after) }
 {
     for i in (0..queues.used).rev() {
         let x = usize::from(queues.lane[i]);
@@ -68,7 +68,7 @@ pub fn thread_lanes(queues: &mut Queues)
 // The packets move up to the front, and the slots behind them can be used again.
 pub fn make_room(queues: &mut Queues)
     requires { (length (flown queues.old) ≤ flight_most) × Queued queues.old }
-    ensures { (queues.new.used ≡ length (flown queues.old)) × (flown queues.new ≡ flown queues.old) × Queued queues.new × Stay queues.new.used queues.old.number queues.old.lane queues.old.bit queues.new.number queues.new.lane queues.new.bit × Idle queues.new.used queues.new.first queues.old.last queues.old.after queues.new.last queues.new.after }
+    ensures { (queues.new.used ≡ length (flown queues.old)) × (flown queues.new ≡ flown queues.old) × Queued queues.new × Kept queues.new.used queues.old queues.new × Idles queues.new.used queues.old queues.new }
 {
     let mut flight = Flight {
         number: [0; SLOTS],
