@@ -1,9 +1,9 @@
 -- What a well-formed record tells of itself, and that calls leave few packets. Assumes nothing.
-use Prim.Native.Nat.{ℕ, ◌*◌, ◌+◌, ◌≤◌, ◌<◌}
+use Prim.Native.Nat.{ℕ, ◌≤◌, ◌<◌}
 use mathlib.Core.Path.{◌≡◌, ap, ◌∙◌}
 use mathlib.Core.Bool.{true}
 use mathlib.Core.List.{List}
-use lib.ListN.{length, get_or}
+use lib.ListN.{length}
 use Rattle.model.specs.Limits.{nodes_most, flight_most}
 use Rattle.model.specs.State.{State}
 use Rattle.model.specs.Formed.{well_formed}

@@ -19,7 +19,7 @@ SameBurst n kinds arguments r r' =
     (r.count ≡ r'.count) × (view r.network ≡ view r'.network)
     × (((i : ℕ) → i < r.count → (call_at (view n) kinds arguments i).answer ≡ answers.done → ⊥) → r ≡ r')
 
-pub burst_one : (κs : Lfts 4) (a : Dens κs burst_kinds.ps) (r r' : Burst) (x x' : AtExit (ended_of 4 burst_kinds.ps burst_kinds.r) κs)
+pub burst_one : (κs : Lfts 5) (a : Dens κs burst_kinds.ps) (r r' : Burst) (x x' : AtExit (ended_of 5 burst_kinds.ps burst_kinds.r) κs)
     → burst.Post κs a r x → burst.Post κs a r' x'
     → SameBurst a.0 a.1.0.now a.1.1.0.now r r' × (x.1.1.1.0.now ≡ x'.1.1.1.0.now) × (x.1.1.1.1.0.now ≡ x'.1.1.1.1.0.now)
     × (x.1.1.1.1.1.0.now ≡ x'.1.1.1.1.1.0.now)

@@ -10,7 +10,7 @@ use Rattle.network.specs.Runs as runs
 use Rattle.bursts.proofs.burst.Kinds as burst_kinds
 use Rattle.bursts.proofs.burst.Reads as burst
 
-pub burst_runs : (κs : Lfts 4) (a : Dens κs burst_kinds.ps) (r : Burst) (x : AtExit (ended_of 4 burst_kinds.ps burst_kinds.r) κs)
+pub burst_runs : (κs : Lfts 5) (a : Dens κs burst_kinds.ps) (r : Burst) (x : AtExit (ended_of 5 burst_kinds.ps burst_kinds.r) κs)
     → burst.Post κs a r x → (es : List Event) → Run a.0 es
     → Run r.network (es ++ events_in a.1.0.now a.1.1.0.now r.count)
 burst_runs κs a r x p es h =

@@ -1,8 +1,8 @@
 -- The check once, the chains, the packets lined up, the calls on copies, the packets gathered. Assumes nothing.
-use Prim.Native.Nat.{◌≤◌}
+use Prim.Native.Nat.{ℕ}
 use native.Mathlib.Omega.{arith}
 use mathlib.Core.Path.{◌≡◌, refl, sym, ap, ◌∙◌}
-use mathlib.Core.Bool.{true, false, not}
+use mathlib.Core.Bool.{false, not}
 use mathlib.Core.List.{List}
 use lib.ListN.{length}
 use borrow.Author.Tests.{not-true}
@@ -10,6 +10,7 @@ use Rattle.model.specs.State.{State, Packet}
 use Rattle.model.specs.Formed.{well_formed}
 use Rattle.model.proofs.Below.{clash}
 use Rattle.arrays.specs.View.{shown}
+use Rattle.arrays.specs.Flight.{flying_in}
 use Rattle.lent.proofs.InPlace.{many, few, sound, lanes_named}
 use Rattle.network.specs.View.{view}
 use Rattle.notes.specs.Bursts.{calls}
@@ -50,6 +51,58 @@ line_up-queues-requires c =
     let good = sym c.well_formed-2.ensures ∙ c.if-not-well_formed.false in
     (few n.plan n.arrows n.flight n.tally good, lanes_named n.plan n.arrows n.flight n.tally good)
 
-pub run-requires : goal.run-requires
-run-requires c = ?
+pub run-network-requires-clause-formed : goal.run-network-requires-clause-formed
+run-network-requires-clause-formed c =
+    let n = c.args.n in
+    ap (λ (f : List Packet). well_formed (shown n.plan n.arrows f n.tally)) c.line_up-queues.ensures.0 ∙ sym c.well_formed-2.ensures ∙ c.if-not-well_formed.false
 
+pub run-network-requires-clause-many : goal.run-network-requires-clause-many
+run-network-requires-clause-many c =
+    let n = c.args.n in
+    ap (λ (f : List Packet). length f) c.line_up-queues.ensures.0 ∙ many n.plan n.arrows n.flight n.tally
+
+pub run-network-requires-clause-chained : goal.run-network-requires-clause-chained
+run-network-requires-clause-chained c =
+    chained c.args.n c.thread-threads.result (sym c.well_formed-2.ensures ∙ c.if-not-well_formed.false) c.thread-threads.ensures
+
+pub returns-then-all_refused : goal.returns-then-all_refused
+returns-then-all_refused c =
+    let a = c.args in
+    let n = a.n in
+    let seen = ap (λ (f : List Packet). shown n.plan n.arrows f n.tally) c.line_up-queues.ensures.0 in
+    let given = given_by seen c.run-network.ensures.lists in
+    record {
+      made = c.shortest-count.ensures;
+      outcome = calls_refused (view n) a.kinds.now a.arguments.now c.shortest-count.result
+          (none_done (view n) a.kinds.now a.arguments.now c.shortest-count.result a.answers.now given.answered (not-true _ (sym c.all_refused.ensures ∙ c.if-all_refused.true)));
+      given = given;
+      unchanged = λ e. refl;
+    }
+
+pub gather-requires : goal.gather-requires
+gather-requires c =
+    let a = c.args in
+    let n = a.n in
+    let seen = ap (λ (f : List Packet). shown n.plan n.arrows f n.tally) c.line_up-queues.ensures.0 in
+    let good = sym c.well_formed-2.ensures ∙ c.if-not-well_formed.false in
+    (c.run-network.ensures.room, few_after _ a.kinds.now a.arguments.now c.shortest-count.result _ (ap well_formed seen ∙ good) c.run-network.ensures.state)
+
+pub returns : goal.returns
+returns c =
+    let a = c.args in
+    let n = a.n in
+    let l = c.run-network.new in
+    let seen = ap (λ (f : List Packet). shown n.plan n.arrows f n.tally) c.line_up-queues.ensures.0 in
+    let given = given_by seen c.run-network.ensures.lists in
+    let few : c.gather.result ≡ c.run-network.result.flying = c.gather.ensures.0 ∙ c.run-network.ensures.many in
+    record {
+      made = c.shortest-count.ensures;
+      outcome =
+          ap (λ (k : ℕ). shown n.plan l.arrows (flying_in c.gather.new.flight k) c.run-network.result) (sym few)
+          ∙ ap (λ (f : List Packet). shown n.plan l.arrows f c.run-network.result) c.gather.ensures.1
+          ∙ c.run-network.ensures.state
+          ∙ ap (λ (s : State). calls s a.kinds.now a.arguments.now c.shortest-count.result) seen;
+      given = given;
+      unchanged =
+          λ e. absurd (clash (c.all_refused.ensures ∙ ap not (done_none (view n) a.kinds.now a.arguments.now c.shortest-count.result a.answers.now given.answered e)) c.if-all_refused.false);
+    }
