@@ -21,17 +21,17 @@ unfolding row tab
 spoilt_row place = refl
 
 module _ (n : Network) where
-  total_row : total_line (view n) ≡ row (ascii "total") (n.admitted ∷ n.delivered ∷ n.lost ∷ n.stranded ∷ n.flying ∷ []) 5
+  total_row : total_line (view n) ≡ row (ascii "total") (n.tally.admitted ∷ n.tally.delivered ∷ n.tally.lost ∷ n.tally.stranded ∷ n.tally.flying ∷ []) 5
   unfolding row tab
   total_row =
-      ap (λ m. line (ascii "total") (digits n.admitted ∷ digits n.delivered ∷ digits n.lost ∷ digits n.stranded ∷ digits m ∷ []))
-      (length-tab (packet_at n.number n.lane n.bit) n.flying)
+      ap (λ m. line (ascii "total") (digits n.tally.admitted ∷ digits n.tally.delivered ∷ digits n.tally.lost ∷ digits n.tally.stranded ∷ digits m ∷ []))
+      (length-tab (packet_at n.flight.number n.flight.lane n.flight.bit) n.tally.flying)
 
-  turns_row : turns_line (view n) ≡ row (ascii "turns") n.turns n.nodes
+  turns_row : turns_line (view n) ≡ row (ascii "turns") n.arrows.turns n.plan.nodes
   unfolding row
-  turns_row = ap (line (ascii "turns")) (tab_same _ _ n.nodes (λ v h. ap digits (used_in n.nodes 0 n.turns v h)))
+  turns_row = ap (line (ascii "turns")) (tab_same _ _ n.plan.nodes (λ v h. ap digits (used_in n.plan.nodes 0 n.arrows.turns v h)))
 
   pub ending_rows : ending_of (view n)
-      ≡ row (ascii "total") (n.admitted ∷ n.delivered ∷ n.lost ∷ n.stranded ∷ n.flying ∷ []) 5 ++ row (ascii "turns") n.turns n.nodes
+      ≡ row (ascii "total") (n.tally.admitted ∷ n.tally.delivered ∷ n.tally.lost ∷ n.tally.stranded ∷ n.tally.flying ∷ []) 5 ++ row (ascii "turns") n.arrows.turns n.plan.nodes
   unfolding ending_of
   ending_rows = ap₂ (λ x y. x ++ y) total_row turns_row

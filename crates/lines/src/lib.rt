@@ -89,23 +89,23 @@ fn turns(
 
 // The two last lines.
 pub fn ending(out: &mut [u8; model::TEXT_MOST], at: usize, n: Network) -> usize
-    requires { Room out.old at (ending_of (view n)) × (n.nodes ≤ nodes_most) }
+    requires { Room out.old at (ending_of (view n)) × (n.plan.nodes ≤ nodes_most) }
     ensures { Put out.old at (ending_of (view n)) result out.new }
 {
     let total = [
-        n.admitted as usize,
-        n.delivered as usize,
-        n.lost as usize,
-        n.stranded as usize,
-        n.flying,
+        n.tally.admitted as usize,
+        n.tally.delivered as usize,
+        n.tally.lost as usize,
+        n.tally.stranded as usize,
+        n.tally.flying,
     ];
     let next = row(out, at, b"total", &total);
-    turns(out, next, &n.turns, n.nodes)
+    turns(out, next, &n.arrows.turns, n.plan.nodes)
 }
 
 // The line of a spoilt event, then the last two.
 pub fn spoilt(out: &mut [u8; model::TEXT_MOST], at: usize, place: usize, n: Network) -> usize
-    requires { Room out.old at (spoilt_line (some place) ++ ending_of (view n)) × (n.nodes ≤ nodes_most) }
+    requires { Room out.old at (spoilt_line (some place) ++ ending_of (view n)) × (n.plan.nodes ≤ nodes_most) }
     ensures { Put out.old at (spoilt_line (some place) ++ ending_of (view n)) result out.new }
 {
     let next = row(out, at, b"spoilt", &[SPOILT, place]);

@@ -72,8 +72,8 @@ module _ {file l whole out : List ℕ} {n : Network} {at ordinal next : ℕ} (ru
       → Pending l 0 whole out next (spoilt_line (some place) ++ ending_of (view n))
   spoils place e = say (tail_spoilt ordinal (view n) place e) run.pending
 
-  pub few_nodes : n.nodes ≤ nodes_most
-  few_nodes = (sizes_small n.nodes n.destination n.links (formed_if (view n) run.formed).net.sizes).0
+  pub few_nodes : n.plan.nodes ≤ nodes_most
+  few_nodes = (sizes_small n.plan.nodes n.plan.destination n.plan.links (formed_if (view n) run.formed).net.sizes).0
 
   pub within : ordinal ≤ file_most
   within = omega (arith, run.counted, run.inside, run.short)
