@@ -40,6 +40,7 @@ fn land(
     ensures outcome { (flight : List Packet) → outcome_of (shown plan.now arrows.new (passed arrows.new.local flight result.handled result.went) result.tally) result ≡ landed (shown plan.now arrows.old flight tally) y n }
     ensures flying { (flight : List Packet) → length flight ≡ tally.flying → length (passed arrows.new.local flight result.handled result.went) ≡ result.tally.flying }
     ensures accepted { result.answer ≡ 0 }
+    ensures live { arrows.new.live ≡ arrows.old.live }
 {
     let destination = plan.destination;
     let flying = tally.flying;
@@ -78,6 +79,7 @@ pub fn deliver_step(
     requires chained { Chained threads plan.now }
     ensures outcome { (flight : List Packet) → told ≡ oldest_in (on_lane x flight) → well_formed (shown plan.now arrows.old flight tally) ≡ true → outcome_of (shown plan.now arrows.new (passed arrows.new.local (without result.answer x flight) result.handled result.went) result.tally) result ≡ deliver_on (shown plan.now arrows.old flight tally) x }
     ensures flying { (flight : List Packet) → told ≡ oldest_in (on_lane x flight) → length flight ≡ tally.flying → length (passed arrows.new.local (without result.answer x flight) result.handled result.went) ≡ result.tally.flying }
+    ensures live { arrows.new.live ≡ arrows.old.live }
     ensures refused { (result.answer ≡ 0 → ⊥) → (result.tally ≡ tally) × (arrows.new ≡ arrows.old) }
 {
     let oldest = match first_on(plan, arrows, x, told) {

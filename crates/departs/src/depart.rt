@@ -22,6 +22,8 @@ pub fn turned_way(plan: &Plan, threads: Option<&Threads>, arrows: &mut Arrows, v
     requires chained { Chained threads plan.now }
     ensures leaves { (flight : List Packet) (t : Tally) (n : ℕ) → leaves (shown plan.now arrows.new flight t) result n ≡ leaves_by (turn_of (shown plan.now arrows.old flight t) v) v n }
     ensures within { result < 2 * plan.now.links }
+    ensures live { arrows.new.live ≡ arrows.old.live }
+    ensures remote { arrows.new.remote ≡ arrows.old.remote }
 {
     turn(plan, arrows, v);
     way(plan, threads, arrows, v).unwrap()
@@ -38,6 +40,8 @@ pub fn onward(plan: &Plan, threads: Option<&Threads>, arrows: &mut Arrows, v: us
     requires marks { MarksLive plan.now arrows.old }
     ensures leaves { (flight : List Packet) (t : Tally) (n : ℕ) → leaves (shown plan.now arrows.new flight t) result n ≡ onward_of (shown plan.now arrows.old flight t) v n }
     ensures within { result < 2 * plan.now.links }
+    ensures live { arrows.new.live ≡ arrows.old.live }
+    ensures remote { arrows.new.remote ≡ arrows.old.remote }
 {
     match way(plan, threads, arrows, v) {
         Some(x) => x,

@@ -1,7 +1,7 @@
 -- By the way out, or by a turn where there is none. Assumes nothing.
 use Prim.Native.Nat.{◌*◌, ◌/◌}
 use native.Mathlib.Omega.{arith}
-use mathlib.Core.Path.{sym, ◌∙◌}
+use mathlib.Core.Path.{refl, sym, ◌∙◌}
 use mathlib.Core.Bool.{false}
 use Rattle.model.specs.Departure.{has_out, door}
 use Rattle.model.proofs.Departure.{door_out}
@@ -38,6 +38,8 @@ returns-in-None c =
       leaves = λ flight t n. c.turned_way.ensures.leaves flight t n
           ∙ onward_turned (shown a.plan.now a.arrows.now flight t) a.v n (no_way (shown a.plan.now a.arrows.now flight t) a.v (sym c.in-None.is ∙ c.way.ensures));
       within = c.turned_way.ensures.within;
+      live = c.turned_way.ensures.live;
+      remote = c.turned_way.ensures.remote;
     }
 
 pub returns-in-Some : goal.returns-in-Some
@@ -48,4 +50,6 @@ returns-in-Some c =
     record {
       leaves = λ flight t n. onward_by (shown a.plan.now a.arrows.now flight t) a.v _ n (sym c.in-Some.is ∙ c.way.ensures);
       within = way_within s a.v c.in-Some.x (sym c.in-Some.is ∙ c.way.ensures);
+      live = refl;
+      remote = refl;
     }
