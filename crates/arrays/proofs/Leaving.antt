@@ -16,7 +16,7 @@ use Rattle.std.specs.Prelude.{None}
 use Rattle.model.specs.State.{Packet}
 use Rattle.model.specs.Lanes.{on_lane, less}
 use Rattle.model.specs.Fail.{off}
-use Rattle.model.proofs.Below.{look, clash}
+use Rattle.model.proofs.Below.{look}
 use Rattle.arrays.specs.declared.Told.{Told}
 use Rattle.arrays.specs.Told.{oldest_in, tells, left, passed, flies}
 

@@ -7,11 +7,13 @@ pub mod kinds;
 pub mod limits;
 mod number;
 mod record;
+mod sizes;
 
 pub use asked::{Asked, none};
 pub use block::{BLOCK, block_has};
 pub use number::{other, wide};
 pub use record::{Arrows, Flight, Plan, Tally};
+pub use sizes::sized;
 
 // Packets move in blocks of so many; slots past the limit are room for that.
 pub const MOVES: usize = 32;

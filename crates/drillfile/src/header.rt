@@ -7,6 +7,7 @@ ghost use Rattle.entries.specs.Outcomes.{answer_in, place_in};
 ghost use Rattle.drillfile.specs.Headers.{header_of, refused_header, HeaderPost, from_links, OpeningAnswer};
 
 use crate::answers::Headed;
+use arrays::sized;
 use entries::{Cursor, Refusal};
 use groups::read_number;
 
@@ -22,10 +23,7 @@ pub(crate) struct Sizes {
 pub(crate) fn sizes_hold(s: Sizes) -> bool
     ensures { result ≡ sized s.nodes s.destination s.links }
 {
-    (1 <= s.nodes)
-        & (s.nodes as usize <= model::NODES)
-        & (s.destination < s.nodes)
-        & (s.links as usize <= model::LINKS)
+    sized(s.nodes as usize, s.destination as usize, s.links as usize)
 }
 
 // What an opening answers, as an outcome.

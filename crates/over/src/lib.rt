@@ -8,7 +8,7 @@ ghost use Rattle.model.specs.Limits.{nodes_most, links_most, ends_most, flight_m
 ghost use Rattle.model.specs.Below.{any};
 ghost use Rattle.over.specs.Formed.{tallied};
 
-use arrays::{SLOTS, Tally};
+use arrays::{SLOTS, Tally, sized};
 
 // Whether some item passes the test. All are asked, with no early end: so the loop is vector code.
 fn some<T: Copy, F: Fn(T) -> bool>(items: &[T], test: F) -> bool
@@ -103,11 +103,10 @@ pub fn limits_hold(nodes: usize, destination: usize, links: usize, t: Tally) -> 
     let events = t.events;
     let admitted = t.admitted;
     let sum = u64::from(t.delivered) + u64::from(t.lost) + u64::from(t.stranded);
-    let a = (1 <= nodes) & (nodes <= model::NODES);
-    let b = (destination < nodes) & (links <= model::LINKS);
-    let c = (events <= model::EVENTS) & (admitted <= events);
+    let a = sized(nodes, destination, links);
+    let b = (events <= model::EVENTS) & (admitted <= events);
     if model::FLIGHT < flying {
         return false;
     }
-    a & b & c & (u64::from(admitted) == flying as u64 + sum)
+    a & b & (u64::from(admitted) == flying as u64 + sum)
 }

@@ -3,15 +3,14 @@ ghost use Rattle.std.specs.Prelude.{◌≡◌, ◌&&◌, ◌/◌, ◌%◌, eqb};
 ghost use Rattle.model.specs.Formed.{sized, joins};
 ghost use Rattle.model.specs.Opening.{first_bad_link};
 
+use arrays::sized;
+
 // The other side of answer 2, on full values: a list may be of any length.
 pub fn sizes_hold(nodes: usize, destination: usize, numbers: usize) -> bool
     ensures { result ≡ (eqb (numbers % 2) 0 && sized nodes destination (numbers / 2)) }
 {
     let even = numbers % 2 == 0;
-    even & ((1 <= nodes)
-        & (nodes <= model::NODES)
-        & (destination < nodes)
-        & (numbers / 2 <= model::LINKS))
+    even & sized(nodes, destination, numbers / 2)
 }
 
 // The other side of answer 3.

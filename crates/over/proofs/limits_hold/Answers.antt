@@ -10,5 +10,5 @@ returns-then-flying-gt-FLIGHT c =
 pub returns : goal.returns
 returns c =
     let a = c.args in
-    rw (c.from.ensures, c.from-2.ensures, c.from-3.ensures, c.from-4.ensures)
+    rw (c.sized-a.ensures, c.from.ensures, c.from-2.ensures, c.from-3.ensures, c.from-4.ensures)
     (tallied_within a.nodes a.destination a.links a.t c.if-flying-gt-FLIGHT.false)
