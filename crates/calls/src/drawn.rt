@@ -1,175 +1,90 @@
 // A drawn opening: arrows along a drawn order, so that no walk closes, and then trouble.
-use crate::number::most;
-use crate::rows::LIST;
-use sums::{double, draw, least, less_one, narrow, plus, rest};
+ghost use Rattle.std.specs.Prelude.{◌≡◌, ◌+◌, ◌*◌, ◌<◌, ◌≤◌, length};
+ghost use Rattle.arrayvec.specs.ArrayVec.{array_vec_len};
 
-#[derive(Clone, Copy)]
+use arrayvec::ArrayVec;
+use sums::Draws;
+
+// The most numbers that an opening's list has.
+pub(crate) const MOST: usize = 515;
+
+// An opening: its list has two numbers a link.
+#[derive(Drop)]
 pub(crate) struct Case {
     pub nodes: usize,
     pub destination: usize,
-    pub list: [u32; LIST],
-    pub length: usize,
+    pub list: ArrayVec<u32, MOST>,
 }
 
-fn swapped(order: [u32; model::NODES], i: usize, w: usize) -> [u32; model::NODES] {
-    let mut next = order;
-    if model::NODES <= i {
-        return next;
+fn shuffled(draws: &mut Draws, nodes: usize) -> [u32; model::NODES]
+    requires { nodes ≤ 64 }
+{
+    let mut order = [0; model::NODES];
+    for (i, node) in order.iter_mut().enumerate() {
+        *node = i as u32;
     }
-    if model::NODES <= w {
-        return next;
-    }
-    let a = order[i];
-    let b = order[w];
-    next[i] = b;
-    next[w] = a;
-    next
-}
-
-fn in_order() -> [u32; model::NODES] {
-    let mut order = [0u32; model::NODES];
-    let mut i: usize = 0;
-    while i < model::NODES {
-        order[i] = i as u32;
-        i += 1;
+    for i in (1..nodes).rev() {
+        let w = draws.below(i + 1);
+        order.swap(i, w);
     }
     order
 }
 
-fn shuffled(x: &mut usize, nodes: usize) -> [u32; model::NODES] {
-    let mut order = in_order();
-    let mut i = nodes;
-    while 1 < i {
-        i -= 1;
-        let w = draw(x, plus(i, 1));
-        let next = swapped(order, i, w);
-        order = next;
-    }
-    order
-}
-
-fn entry(order: &[u32; model::NODES], i: usize) -> u32 {
-    if model::NODES <= i {
-        return 0;
-    }
-    order[i]
-}
-
-fn put(list: [u32; LIST], i: usize, value: u32) -> [u32; LIST] {
-    let mut next = list;
-    if i < LIST {
-        next[i] = value;
-    }
-    next
-}
-
-fn get(list: &[u32; LIST], i: usize) -> u32 {
-    if LIST <= i {
-        return 0;
-    }
-    list[i]
-}
-
-// Link k, from the earlier of two nodes to the later.
-fn with_link(
-    x: &mut usize,
-    list: [u32; LIST],
-    order: &[u32; model::NODES],
-    nodes: usize,
-    k: usize,
-) -> [u32; LIST] {
-    let p = draw(x, nodes);
-    let d = draw(x, less_one(nodes));
-    let q = rest(plus(plus(p, 1), d), nodes);
-    let first = least(p, q);
-    let last = most(p, q);
-    let tail = put(list, double(k), entry(order, first));
-    put(tail, plus(double(k), 1), entry(order, last))
-}
-
-fn linked(x: &mut usize, order: &[u32; model::NODES], nodes: usize, links: usize) -> [u32; LIST] {
-    let mut list = [0u32; LIST];
-    let mut k: usize = 0;
-    while k < links {
-        let next = with_link(x, list, order, nodes, k);
-        list = next;
-        k += 1;
+// Each link from the earlier of two nodes to the later.
+fn linked(draws: &mut Draws, order: &[u32], links: usize) -> ArrayVec<u32, MOST>
+    requires nodes { 1 < length order.now }
+    requires room { links ≤ 60 }
+    ensures { array_vec_len result ≡ 2 * links }
+{
+    let nodes = order.len();
+    let mut list = ArrayVec::new();
+    for k in 0..links {
+        let p = draws.below(nodes);
+        let d = draws.below(nodes - 1);
+        let q = (p + 1 + d) % nodes;
+        list.push(order[p.min(q)]);
+        list.push(order[p.max(q)]);
     }
     list
 }
 
-// The two numbers of link k change places.
-fn turned(list: [u32; LIST], k: usize) -> [u32; LIST] {
-    let a = get(&list, double(k));
-    let b = get(&list, plus(double(k), 1));
-    put(put(list, double(k), b), plus(double(k), 1), a)
+// By t: link k turned, or all links from k on, a node number at end e of link k, or the last number dropped.
+fn spoil(list: &mut ArrayVec<u32, MOST>, t: usize, k: usize, e: usize, nodes: u32)
+    requires link { 2 * k + 1 < array_vec_len list.old }
+    requires end { e < 2 }
+{
+    match t {
+        0 => list.swap(2 * k, 2 * k + 1),
+        1 => {
+            for i in k..list.len() / 2 {
+                list.swap(2 * i, 2 * i + 1);
+            }
+        }
+        2 => list[2 * k + e] = nodes,
+        3 => list[2 * k + e] = list[2 * k + 1 - e],
+        4 => {
+            list.pop();
+        }
+        _ => {}
+    }
 }
 
-fn all_turned(list: [u32; LIST], from: usize, links: usize) -> [u32; LIST] {
-    let mut next = list;
-    let mut k = from;
-    while k < links {
-        let one = turned(next, k);
-        next = one;
-        k += 1;
-    }
-    next
-}
-
-fn spoilt(
-    list: [u32; LIST],
-    t: usize,
-    k: usize,
-    e: usize,
-    nodes: usize,
-    links: usize,
-) -> [u32; LIST] {
-    if t == 0 {
-        return turned(list, k);
-    }
-    if t == 1 {
-        return all_turned(list, k, links);
-    }
-    if t == 2 {
-        return put(list, plus(double(k), e), narrow(nodes));
-    }
-    if t == 3 {
-        let value = get(&list, plus(double(k), 1 - e % 2));
-        return put(list, plus(double(k), e), value);
-    }
-    list
-}
-
-fn destination(x: &mut usize, nodes: usize) -> usize {
-    let t = draw(x, 16);
-    if t == 0 {
-        return nodes;
-    }
-    draw(x, nodes)
-}
-
-fn length_of(t: usize, links: usize) -> usize {
-    if t == 4 {
-        return less_one(double(links));
-    }
-    double(links)
-}
-
-pub(crate) fn drawn(x: &mut usize) -> Case {
-    let nodes = plus(2, draw(x, 63));
-    let destination = destination(x, nodes);
-    let links = plus(1, draw(x, 60));
-    let order = shuffled(x, nodes);
-    let good = linked(x, &order, nodes, links);
-    let t = draw(x, 8);
-    let k = draw(x, links);
-    let e = draw(x, 2);
-    let list = spoilt(good, t, k, e, nodes, links);
-    let length = length_of(t, links);
+pub(crate) fn drawn(draws: &mut Draws) -> Case {
+    let nodes = 2 + draws.below(63);
+    let destination = match draws.below(16) {
+        0 => nodes,
+        _ => draws.below(nodes),
+    };
+    let links = 1 + draws.below(60);
+    let order = shuffled(draws, nodes);
+    let mut list = linked(draws, &order[..nodes], links);
+    let t = draws.below(8);
+    let k = draws.below(links);
+    let e = draws.below(2);
+    spoil(&mut list, t, k, e, nodes as u32);
     Case {
         nodes,
         destination,
         list,
-        length,
     }
 }

@@ -1,108 +1,107 @@
 // Part `drills`: whole drills written and read back, then damaged and read as far as they go.
 use crate::drawn::drawn;
-use crate::file::{File, ROOM, blank, changed, cut, with_byte};
-use crate::number::narrow8;
+use crate::file::{File, ROOM, blank, change};
 use crate::read::{event_line, file_line, header_line};
 use crate::readings::argument;
 use crate::writings::{case_into, event_into};
-use std::io::Result;
-use sums::{draw, least, less_one, narrow, plus, wide8};
+use std::io::{Result, Write};
+use sums::Draws;
 
-// An event behind what stands, and the length of all.
-fn with_event(out: &impl Print, x: &mut usize, part: &mut [u8], length: usize) -> Result<usize> {
-    let kind = plus(1, draw(x, 4));
-    let a = argument(x);
-    let at = least(length, part.len());
-    let count = event_into(out, &mut part[at..], narrow(kind), narrow(a))?;
-    Ok(plus(at, count))
-}
-
-fn with_events(
+// Events behind what stands, and the length of all.
+fn push_events(
     out: &impl Print,
-    x: &mut usize,
+    draws: &mut Draws,
     part: &mut [u8],
     from: usize,
     count: usize,
 ) -> Result<usize> {
-    let mut at = from;
-    let mut i: usize = 0;
-    while i < count {
-        let next = with_event(out, x, part, at)?;
-        at = next;
-        i += 1;
+    let mut length = from;
+    for _ in 0..count {
+        let kind = 1 + draws.below(4) as u32;
+        let a = argument(draws);
+        let start = length.min(part.len());
+        length = start.saturating_add(event_into(out, &mut part[start..], kind, a)?);
     }
-    Ok(at)
+    Ok(length)
 }
 
 // An event takes two bytes, so that no file has as many events as it has room.
-fn read_events(out: &impl Print, f: File, from: usize) -> Result<()> {
+fn read_events(out: &impl Print, file: &[u8], from: usize) -> Result<()> {
     let mut at = from;
-    let mut left = ROOM;
-    while 0 < left {
-        left -= 1;
-        let Some(next) = event_line(out, f, at)? else {
-            return Ok(());
+    for _ in 0..ROOM {
+        let Some(next) = event_line(out, file, at)? else {
+            break;
         };
         at = next;
     }
     Ok(())
 }
 
-fn read_back(out: &impl Print, f: File) -> Result<()> {
-    file_line(out, f)?;
-    let Some(next) = header_line(out, f, 0)? else {
-        return Ok(());
-    };
-    read_events(out, f, next)
+fn read_back(out: &impl Print, file: &[u8]) -> Result<()> {
+    file_line(out, file)?;
+    match header_line(out, file, 0)? {
+        Some(next) => read_events(out, file, next),
+        None => Ok(()),
+    }
+}
+
+fn copy_of(file: &[u8]) -> Result<File> {
+    let mut copy = File::new();
+    copy.write_all(file)?;
+    Ok(copy)
 }
 
 // The last byte as if one more followed, and a 0, which the shortest form has not.
-fn not_shortest(f: File) -> File {
-    let last = less_one(f.length);
-    if ROOM <= last {
-        return f;
+fn not_shortest(file: &[u8]) -> Result<File> {
+    let mut long = copy_of(file)?;
+    if let Some(last) = long.last_mut() {
+        *last = last.wrapping_add(128);
     }
-    let bytes = f.bytes;
-    let byte = plus(128, wide8(bytes[last]));
-    with_byte(changed(f, last, narrow8(byte)), 0)
+    long.write_all(&[0])?;
+    Ok(long)
 }
 
-fn read_damaged(out: &impl Print, x: &mut usize, f: File) -> Result<()> {
-    let length = draw(x, f.length);
-    read_back(out, cut(f, length))?;
-    let high = draw(x, f.length);
-    read_back(out, changed(f, high, narrow8(plus(128, draw(x, 128)))))?;
-    let any = draw(x, f.length);
-    read_back(out, changed(f, any, narrow8(draw(x, 256))))?;
-    read_back(out, not_shortest(f))?;
-    read_back(out, with_byte(with_byte(f, 5), 0))?;
-    let going_on = with_byte(with_byte(with_byte(f, 129), 129), 129);
-    read_back(out, with_byte(going_on, 1))
+fn read_changed(out: &impl Print, file: &[u8], at: usize, byte: u8) -> Result<()> {
+    let mut copy = copy_of(file)?;
+    change(&mut copy, at, byte);
+    read_back(out, &copy)
 }
 
-fn drill(out: &impl Print, x: &mut usize) -> Result<()> {
-    let c = drawn(x);
+fn read_longer(out: &impl Print, file: &[u8], more: &[u8]) -> Result<()> {
+    let mut copy = copy_of(file)?;
+    copy.write_all(more)?;
+    read_back(out, &copy)
+}
+
+fn read_damaged(out: &impl Print, draws: &mut Draws, file: &[u8]) -> Result<()> {
+    read_back(out, &file[..draws.below(file.len())])?;
+    let high = draws.below(file.len());
+    read_changed(out, file, high, 128 + draws.below(128) as u8)?;
+    let any = draws.below(file.len());
+    read_changed(out, file, any, draws.below(256) as u8)?;
+    read_back(out, &not_shortest(file)?)?;
+    read_longer(out, file, &[5, 0])?;
+    read_longer(out, file, &[129, 129, 129, 1])
+}
+
+fn drill(out: &impl Print, draws: &mut Draws) -> Result<()> {
+    let c = drawn(draws);
     let mut part = blank();
-    let header = case_into(out, &mut part, c)?;
+    let header = case_into(out, &mut part, &c)?;
     // Nothing is written of a refused header.
     if header == 0 {
         return Ok(());
     }
-    let count = draw(x, 12);
-    let length = with_events(out, x, &mut part, header, count)?;
-    let f = File {
-        bytes: part,
-        length,
-    };
-    read_back(out, f)?;
-    read_damaged(out, x, f)
+    let count = draws.below(12);
+    let length = push_events(out, draws, &mut part, header, count)?;
+    let file = &part[..length.min(ROOM)];
+    read_back(out, file)?;
+    read_damaged(out, draws, file)
 }
 
-pub(crate) fn part(out: &impl Print, x: &mut usize) -> Result<()> {
-    let mut i: usize = 0;
-    while i < 120 {
-        drill(out, x)?;
-        i += 1;
+pub(crate) fn part(out: &impl Print, draws: &mut Draws) -> Result<()> {
+    for _ in 0..120 {
+        drill(out, draws)?;
     }
     Ok(())
 }

@@ -6,8 +6,6 @@ mod drawn;
 mod drills;
 mod file;
 mod headers;
-mod line;
-mod number;
 mod openings;
 mod read;
 mod readings;
@@ -15,17 +13,13 @@ mod rows;
 mod writings;
 
 use std::io;
-use sums::start;
+use sums::Draws;
 
 const SEED: usize = 1;
 
 fn main(rt: HostRuntime) -> io::Result<()> {
-    let mut opening = start(SEED, 0);
-    openings::part(&rt, &mut opening)?;
-    let mut writing = start(SEED, 2);
-    writings::part(&rt, &mut writing)?;
-    let mut reading = start(SEED, 3);
-    readings::part(&rt, &mut reading)?;
-    let mut drill = start(SEED, 5);
-    drills::part(&rt, &mut drill)
+    openings::part(&rt, &mut Draws::start(SEED, 0))?;
+    writings::part(&rt, &mut Draws::start(SEED, 2))?;
+    readings::part(&rt, &mut Draws::start(SEED, 3))?;
+    drills::part(&rt, &mut Draws::start(SEED, 5))
 }

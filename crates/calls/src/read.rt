@@ -1,91 +1,56 @@
 // The line of a file, and of each reading from it.
-use crate::file::{File, front};
-use crate::line::{end, field, word};
-use drillfile::{Cursor, Got};
+use drillfile::Cursor;
 use std::io::Result;
-use sums::{of_bytes, of_record, wide};
+use sums::{of_bytes, of_record};
 
-pub(crate) fn file_line(out: &impl Print, f: File) -> Result<()> {
-    word(out, b"b")?;
-    field(out, f.length)?;
-    field(out, of_bytes(front(&f.bytes, f.length)))?;
-    end(out)
+pub(crate) fn file_line(out: &impl Print, file: &[u8]) -> Result<()> {
+    println!(out; "b {} {}", file.len(), of_bytes(file))
 }
 
-pub(crate) fn number_line(out: &impl Print, f: File, position: usize) -> Result<()> {
-    let r = drillfile::read_number(front(&f.bytes, f.length), position);
-    word(out, b"n")?;
-    field(out, position)?;
-    match r {
-        Ok(number) => {
-            word(out, b" 0 0")?;
-            field(out, wide(number.value))?;
-            field(out, number.next)?;
-        }
-        Err(spoilt) => {
-            word(out, b" 11")?;
-            field(out, spoilt.place)?;
-            word(out, b" - -")?;
-        }
+pub(crate) fn number_line(out: &impl Print, file: &[u8], position: usize) -> Result<()> {
+    match drillfile::read_number(file, position) {
+        Ok(number) => println!(out; "n {position} 0 0 {} {}", number.value, number.next),
+        Err(spoilt) => println!(out; "n {position} 11 {} - -", spoilt.place),
     }
-    end(out)
 }
 
-// The fields of an event that was read, and the position after it; none where nothing is left to read.
-fn got_fields(out: &impl Print, got: Got) -> Result<Option<usize>> {
+// The event at a position, and where the next one is read: none after the file's end or a refusal.
+pub(crate) fn event_line(out: &impl Print, file: &[u8], position: usize) -> Result<Option<usize>> {
+    let got = drillfile::read_event(file, Cursor { at: position });
     let next = got.next.at;
     match got.event {
         Ok(Some(event)) => {
-            word(out, b" 0 0")?;
-            field(out, wide(event.kind))?;
-            field(out, wide(event.argument))?;
-            field(out, next)?;
+            println!(out; "e {position} 0 0 {} {} {next}", event.kind, event.argument)?;
             Ok(Some(next))
         }
         Ok(None) => {
-            word(out, b" 0 0 - -")?;
-            field(out, next)?;
+            println!(out; "e {position} 0 0 - - {next}")?;
             Ok(None)
         }
         Err(spoilt) => {
-            word(out, b" 11")?;
-            field(out, spoilt.place)?;
-            word(out, b" - -")?;
-            field(out, next)?;
+            println!(out; "e {position} 11 {} - - {next}", spoilt.place)?;
             Ok(None)
         }
     }
 }
 
-pub(crate) fn event_line(out: &impl Print, f: File, position: usize) -> Result<Option<usize>> {
-    let got = drillfile::read_event(front(&f.bytes, f.length), Cursor { at: position });
-    word(out, b"e")?;
-    field(out, position)?;
-    let after = got_fields(out, got)?;
-    end(out)?;
-    Ok(after)
-}
-
-pub(crate) fn header_line(out: &impl Print, f: File, position: usize) -> Result<Option<usize>> {
-    let h = drillfile::read_header(front(&f.bytes, f.length), Cursor { at: position });
-    let record = h.network;
+// The header at a position, and where its first event is read: none after a refused one.
+pub(crate) fn header_line(out: &impl Print, file: &[u8], position: usize) -> Result<Option<usize>> {
+    let h = drillfile::read_header(file, Cursor { at: position });
     let next = h.next.at;
-    word(out, b"r")?;
-    field(out, position)?;
-    // nothing is read after a refused header
-    let after = match h.outcome {
+    let sum = of_record(h.network);
+    match h.outcome {
         Ok(()) => {
-            word(out, b" 0 0")?;
-            Some(next)
+            println!(out; "r {position} 0 0 {next} {sum}")?;
+            Ok(Some(next))
         }
         Err(refusal) => {
-            field(out, wide(refusal.answer()))?;
-            field(out, refusal.place())?;
-            None
+            println!(out;
+                "r {position} {} {} {next} {sum}",
+                refusal.answer(),
+                refusal.place()
+            )?;
+            Ok(None)
         }
-    };
-    field(out, next)?;
-    field(out, of_record(record))?;
-    end(out)?;
-    Ok(after)
+    }
 }

@@ -1,154 +1,115 @@
 // Part `readings`: numbers, events and headers at any position.
+ghost use Rattle.std.specs.Prelude.{◌<◌, ◌^◌};
+
 use crate::bounds::fixed_headers;
-use crate::file::{File, cut, empty, with_byte, with_number};
+use crate::file::{File, push_number};
 use crate::headers::drawn_headers;
-use crate::number::narrow8;
 use crate::read::{event_line, file_line, number_line};
-use std::io::Result;
-use sums::{HUGE, draw, plus};
+use std::io::{Result, Write};
+use sums::{Draws, HUGE};
 
 pub(crate) const NUMBER_BYTES: [u8; 6] = [0, 1, 127, 128, 129, 255];
 
 const EVENT_BYTES: [u8; 6] = [0, 1, 4, 5, 128, 255];
 
-// Files of at most three bytes out of six: 1, 6, 36 and 216 of them.
-const SHORT: usize = 259;
+// The lengths of short files, and how many files of six bytes there are of each.
+const SHORT: [(usize, usize); 4] = [(0, 1), (1, 6), (2, 36), (3, 216)];
 
-fn line(out: &impl Print, f: File, position: usize, event: bool) -> Result<()> {
-    if event {
-        event_line(out, f, position)?;
-        return Ok(());
+fn short(six: &[u8; 6], length: usize, index: usize) -> Result<File> {
+    let mut file = File::new();
+    let mut rest = index;
+    for _ in 0..length {
+        file.write_all(&[six[rest % 6]])?;
+        rest /= 6;
     }
-    number_line(out, f, position)
+    Ok(file)
 }
 
-fn digits(six: [u8; 6], index: usize, length: usize) -> File {
-    let one = with_byte(empty(), six[index % 6]);
-    let two = with_byte(one, six[index / 6 % 6]);
-    let three = with_byte(two, six[index / 36 % 6]);
-    cut(three, length)
-}
-
-fn short(six: [u8; 6], i: usize) -> File {
-    if i < 1 {
-        return empty();
-    }
-    if i < 7 {
-        return digits(six, i - 1, 1);
-    }
-    if i < 43 {
-        return digits(six, i - 7, 2);
-    }
-    digits(six, i - 43, 3)
-}
-
-fn every_short(out: &impl Print, six: [u8; 6], event: bool) -> Result<()> {
-    let mut i: usize = 0;
-    while i < SHORT {
-        line(out, short(six, i), 0, event)?;
-        i += 1;
+fn every_short<F: Fn(&[u8]) -> Result<()>>(six: &[u8; 6], line: F) -> Result<()>
+    requires { F.IsAlwaysCallable line }
+{
+    for (length, count) in SHORT {
+        for index in 0..count {
+            line(&short(six, length, index)?)?;
+        }
     }
     Ok(())
 }
 
 // Each position up to two past the end, and two far past it.
-fn every_position(out: &impl Print, f: File, event: bool) -> Result<()> {
-    let most = plus(f.length, 3);
-    let mut at: usize = 0;
-    while at < most {
-        line(out, f, at, event)?;
-        at += 1;
+fn every_position<F: Fn(usize) -> Result<()>>(length: usize, line: F) -> Result<()>
+    requires callable { F.IsAlwaysCallable line }
+    requires small { length < 2 ^ 63 }
+{
+    for position in 0..length + 3 {
+        line(position)?;
     }
-    line(out, f, 1000, event)?;
-    line(out, f, HUGE, event)
+    line(1000)?;
+    line(HUGE)
 }
 
-fn any_byte(x: &mut usize) -> u8 {
-    let t = draw(x, 4);
-    if t == 0 {
-        let i = draw(x, 6);
-        return NUMBER_BYTES[i % 6];
-    }
-    if t == 1 {
-        return narrow8(plus(1, draw(x, 4)));
-    }
-    if t == 2 {
-        return narrow8(draw(x, 256));
-    }
-    narrow8(draw(x, 64))
+fn every_number(out: &impl Print, file: &[u8]) -> Result<()> {
+    every_position(file.len(), |at| number_line(out, file, at))
 }
 
-fn any_bytes(x: &mut usize, count: usize) -> File {
-    let mut f = empty();
-    let mut i: usize = 0;
-    while i < count {
-        let next = with_byte(f, any_byte(x));
-        f = next;
-        i += 1;
+fn every_event(out: &impl Print, file: &[u8]) -> Result<()> {
+    every_position(file.len(), |at| {
+        event_line(out, file, at)?;
+        Ok(())
+    })
+}
+
+fn any_byte(draws: &mut Draws) -> u8 {
+    match draws.below(4) {
+        0 => NUMBER_BYTES[draws.below(6)],
+        1 => 1 + draws.below(4) as u8,
+        2 => draws.below(256) as u8,
+        _ => draws.below(64) as u8,
     }
-    f
 }
 
 // An argument of one, two or three bytes.
-pub(crate) fn argument(x: &mut usize) -> usize {
-    let t = draw(x, 3);
-    if t == 0 {
-        return draw(x, 128);
+pub(crate) fn argument(draws: &mut Draws) -> u32 {
+    match draws.below(3) {
+        0 => draws.below(128) as u32,
+        1 => 128 + draws.below(16_256) as u32,
+        _ => 16_384 + draws.below(2_080_768) as u32,
     }
-    if t == 1 {
-        return plus(128, draw(x, 16_256));
+}
+
+fn any_file(out: &impl Print, draws: &mut Draws) -> Result<()> {
+    let length = 16 + draws.below(9);
+    let mut file = File::new();
+    for _ in 0..length {
+        file.write_all(&[any_byte(draws)])?;
     }
-    plus(16_384, draw(x, 2_080_768))
+    file_line(out, &file)?;
+    every_number(out, &file)?;
+    every_event(out, &file)
 }
 
-fn with_event(x: &mut usize, f: File) -> File {
-    let kind = plus(1, draw(x, 4));
-    let a = argument(x);
-    with_number(with_number(f, kind), a)
-}
-
-fn good_events(x: &mut usize) -> File {
-    let mut f = empty();
-    let mut i: usize = 0;
-    while i < 8 {
-        let next = with_event(x, f);
-        f = next;
-        i += 1;
+fn good_file(out: &impl Print, draws: &mut Draws) -> Result<()> {
+    let mut file = File::new();
+    for _ in 0..8 {
+        push_number(&mut file, 1 + draws.below(4) as u32)?;
+        push_number(&mut file, argument(draws))?;
     }
-    f
+    file_line(out, &file)?;
+    every_event(out, &file)
 }
 
-fn any_file(out: &impl Print, x: &mut usize) -> Result<()> {
-    let length = plus(16, draw(x, 9));
-    let f = any_bytes(x, length);
-    file_line(out, f)?;
-    every_position(out, f, false)?;
-    every_position(out, f, true)
-}
-
-fn any_files(out: &impl Print, x: &mut usize) -> Result<()> {
-    let mut i: usize = 0;
-    while i < 6 {
-        any_file(out, x)?;
-        i += 1;
+pub(crate) fn part(out: &impl Print, draws: &mut Draws) -> Result<()> {
+    every_short(&NUMBER_BYTES, |file| number_line(out, file, 0))?;
+    every_short(&EVENT_BYTES, |file| {
+        event_line(out, file, 0)?;
+        Ok(())
+    })?;
+    for _ in 0..6 {
+        any_file(out, draws)?;
     }
-    Ok(())
-}
-
-fn good_file(out: &impl Print, x: &mut usize) -> Result<()> {
-    let f = good_events(x);
-    file_line(out, f)?;
-    every_position(out, f, true)
-}
-
-pub(crate) fn part(out: &impl Print, x: &mut usize) -> Result<()> {
-    every_short(out, NUMBER_BYTES, false)?;
-    every_short(out, EVENT_BYTES, true)?;
-    any_files(out, x)?;
-    good_file(out, x)?;
-    good_file(out, x)?;
-    good_file(out, x)?;
-    good_file(out, x)?;
-    drawn_headers(out, x)?;
+    for _ in 0..4 {
+        good_file(out, draws)?;
+    }
+    drawn_headers(out, draws)?;
     fixed_headers(out)
 }

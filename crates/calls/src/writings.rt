@@ -1,11 +1,12 @@
 // Part `writings`: events and headers into lent parts of every length.
+ghost use Rattle.std.specs.Prelude.{◌<◌};
+
 use crate::drawn::{Case, drawn};
 use crate::file::{ROOM, blank};
-use crate::line::{end, field, word};
-use crate::rows::{COUNT, list, number};
+use crate::rows::{ROWS, opening};
 use drillfile::Refusal;
 use std::io::Result;
-use sums::{double, least, less_one, of_bytes, plus, wide};
+use sums::{Draws, of_bytes};
 
 const KINDS: [u32; 7] = [0, 1, 2, 3, 4, 5, 4_294_967_295];
 
@@ -21,8 +22,6 @@ const ARGUMENTS: [u32; 10] = [
     2_097_152,
     4_294_967_295,
 ];
-
-const LENT: [usize; 3] = [0, 3, 520];
 
 // The answer, the place and the count of a writing.
 fn told(w: std::result::Result<usize, Refusal>) -> (u32, usize, usize) {
@@ -40,149 +39,103 @@ pub(crate) fn event_into(
     argument: u32,
 ) -> Result<usize> {
     let (answer, _, count) = told(drillfile::write_event(part, kind, argument));
-    word(out, b"w")?;
-    field(out, wide(kind))?;
-    field(out, wide(argument))?;
-    field(out, part.len())?;
-    field(out, wide(answer))?;
-    field(out, count)?;
-    field(out, of_bytes(part))?;
-    end(out)?;
+    let lent = part.len();
+    let sum = of_bytes(part);
+    println!(out; "w {kind} {argument} {lent} {answer} {count} {sum}")?;
     Ok(count)
-}
-
-fn header_into(
-    out: &impl Print,
-    part: &mut [u8],
-    nodes: usize,
-    destination: usize,
-    list: &[u32],
-) -> Result<usize> {
-    let (answer, place, count) = told(drillfile::write_header(part, nodes, destination, list));
-    word(out, b"h")?;
-    field(out, nodes)?;
-    field(out, destination)?;
-    field(out, list.len())?;
-    field(out, part.len())?;
-    field(out, wide(answer))?;
-    field(out, place)?;
-    field(out, count)?;
-    field(out, of_bytes(part))?;
-    end(out)?;
-    Ok(count)
-}
-
-fn used(list: &[u32], length: usize) -> &[u32] {
-    let n = least(length, list.len());
-    &list[0..n]
 }
 
 // The same of the header of an opening.
-pub(crate) fn case_into(out: &impl Print, part: &mut [u8], c: Case) -> Result<usize> {
-    header_into(out, part, c.nodes, c.destination, used(&c.list, c.length))
+pub(crate) fn case_into(out: &impl Print, part: &mut [u8], c: &Case) -> Result<usize> {
+    let (answer, place, count) = told(drillfile::write_header(
+        part,
+        c.nodes,
+        c.destination,
+        &c.list,
+    ));
+    let lent = part.len();
+    let sum = of_bytes(part);
+    print!(out; "h {} {} {} {lent} ", c.nodes, c.destination, c.list.len())?;
+    println!(out; "{answer} {place} {count} {sum}")?;
+    Ok(count)
 }
 
 fn event_line(out: &impl Print, kind: u32, argument: u32, lent: usize) -> Result<()> {
     let mut part = blank();
-    let n = least(lent, ROOM);
-    event_into(out, &mut part[0..n], kind, argument)?;
+    event_into(out, &mut part[..lent.min(ROOM)], kind, argument)?;
     Ok(())
 }
 
-fn header_line(out: &impl Print, c: Case, lent: usize) -> Result<()> {
+fn header_line(out: &impl Print, c: &Case, lent: usize) -> Result<()> {
     let mut part = blank();
-    let n = least(lent, ROOM);
-    case_into(out, &mut part[0..n], c)?;
+    case_into(out, &mut part[..lent.min(ROOM)], c)?;
     Ok(())
 }
 
 // Each kind with each argument and each length up to 6.
 fn events(out: &impl Print) -> Result<()> {
-    let mut i: usize = 0;
-    while i < 490 {
-        event_line(out, KINDS[i / 70 % 7], ARGUMENTS[i / 7 % 10], i % 7)?;
-        i += 1;
+    for kind in KINDS {
+        for argument in ARGUMENTS {
+            for lent in 0..7 {
+                event_line(out, kind, argument, lent)?;
+            }
+        }
     }
     Ok(())
-}
-
-fn of_row(i: usize) -> Case {
-    let list = list(wide(number(i, 3)), wide(number(i, 4)), number(i, 5));
-    Case {
-        nodes: wide(number(i, 0)),
-        destination: wide(number(i, 1)),
-        list,
-        length: wide(number(i, 2)),
-    }
 }
 
 fn rows(out: &impl Print) -> Result<()> {
-    let mut i: usize = 0;
-    while i < 3 * COUNT {
-        header_line(out, of_row(i / 3), LENT[i % 3])?;
-        i += 1;
+    for row in ROWS {
+        let c = opening(row);
+        for lent in [0, 3, 520] {
+            header_line(out, &c, lent)?;
+        }
     }
     Ok(())
-}
-
-// A row of which no number is changed.
-fn plain(nodes: usize, destination: usize, length: usize, modulus: usize) -> Case {
-    let list = list(modulus, 999, 0);
-    Case {
-        nodes,
-        destination,
-        list,
-        length,
-    }
 }
 
 // Every length up to two too many.
 fn small(out: &impl Print, c: Case) -> Result<()> {
-    let most = plus(c.length, 6);
-    let mut lent: usize = 0;
-    while lent < most {
-        header_line(out, c, lent)?;
-        lent += 1;
+    for lent in 0..c.list.len() + 6 {
+        header_line(out, &c, lent)?;
     }
     Ok(())
 }
 
-// Links of two nodes, with what their header needs.
-fn large(out: &impl Print, links: usize, need: usize) -> Result<()> {
-    let c = plain(2, 0, double(links), 0);
-    header_line(out, c, 1)?;
-    header_line(out, c, less_one(need))?;
-    header_line(out, c, need)?;
-    header_line(out, c, plus(need, 1))?;
-    header_line(out, c, plus(need, 2))
-}
-
-fn one_drawn(out: &impl Print, x: &mut usize) -> Result<()> {
-    let c = drawn(x);
-    header_line(out, c, plus(c.length, 2))?;
-    header_line(out, c, plus(c.length, 3))?;
-    header_line(out, c, plus(c.length, 5))
-}
-
-fn all_drawn(out: &impl Print, x: &mut usize) -> Result<()> {
-    let mut i: usize = 0;
-    while i < 20 {
-        one_drawn(out, x)?;
-        i += 1;
+// Links of two nodes, two numbers a link, with what their header needs.
+fn large(out: &impl Print, numbers: u32, need: usize) -> Result<()>
+    requires some { 0 < need }
+    requires most { need < 1000 }
+{
+    let c = opening([2, 0, numbers, 0, 999, 0]);
+    for lent in [1, need - 1, need, need + 1, need + 2] {
+        header_line(out, &c, lent)?;
     }
     Ok(())
 }
 
-pub(crate) fn part(out: &impl Print, x: &mut usize) -> Result<()> {
+fn one_drawn(out: &impl Print, draws: &mut Draws) -> Result<()> {
+    let c = drawn(draws);
+    let length = c.list.len();
+    for lent in [length + 2, length + 3, length + 5] {
+        header_line(out, &c, lent)?;
+    }
+    Ok(())
+}
+
+pub(crate) fn part(out: &impl Print, draws: &mut Draws) -> Result<()> {
     events(out)?;
     rows(out)?;
-    small(out, plain(1, 0, 0, 0))?;
-    small(out, plain(2, 1, 2, 0))?;
-    small(out, plain(3, 2, 4, 3))?;
-    small(out, plain(64, 63, 6, 64))?;
-    large(out, 127, 257)?;
-    large(out, 128, 260)?;
-    large(out, 255, 514)?;
-    large(out, 256, 516)?;
-    all_drawn(out, x)
+    small(out, opening([1, 0, 0, 0, 999, 0]))?;
+    small(out, opening([2, 1, 2, 0, 999, 0]))?;
+    small(out, opening([3, 2, 4, 3, 999, 0]))?;
+    small(out, opening([64, 63, 6, 64, 999, 0]))?;
+    large(out, 254, 257)?;
+    large(out, 256, 260)?;
+    large(out, 510, 514)?;
+    large(out, 512, 516)?;
+    for _ in 0..20 {
+        one_drawn(out, draws)?;
+    }
+    Ok(())
 }

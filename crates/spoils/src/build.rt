@@ -1,16 +1,10 @@
 // A well-formed record, drawn field by field; no history need lead to it.
-use crate::number::narrow16;
+ghost use Rattle.std.specs.Prelude.{◌+◌, ◌*◌, ◌<◌, ◌≤◌};
+
+use crate::sizes::Sizes;
 use arrays::SLOTS;
 use network::Network;
-use sums::{double, draw, least, less_one, narrow, plus, rest, wide};
-
-// The counts that a record was built with, whatever becomes of it.
-#[derive(Clone, Copy)]
-pub(crate) struct Sizes {
-    pub nodes: usize,
-    pub links: usize,
-    pub flying: usize,
-}
+use sums::Draws;
 
 fn blank(s: Sizes) -> Network {
     Network {
@@ -36,176 +30,79 @@ fn blank(s: Sizes) -> Network {
     }
 }
 
-fn drawn_sizes(
-    x: &mut usize,
-    most_nodes: usize,
-    most_links: usize,
-    low: usize,
-    flights: usize,
-) -> Sizes {
-    let nodes = plus(2, draw(x, most_nodes));
-    let links = plus(1, draw(x, most_links));
-    let flying = plus(low, draw(x, flights));
-    Sizes {
-        nodes,
-        links,
-        flying,
-    }
+fn fill_end(draws: &mut Draws, r: &mut Network, x: usize, node: u16, bias: usize, live: bool)
+    requires { x < 512 }
+{
+    let out = draws.below(bias) == 0;
+    r.node[x] = node;
+    r.out[x] = out;
+    r.local[x] = draws.below(2) == 1;
+    r.remote[x] = draws.below(2) == 1;
+    r.mark[x] = draws.below(2) == 1 && live && !out;
 }
 
-pub(crate) fn shaped(x: &mut usize, shape: usize) -> Sizes {
-    if shape == 0 {
-        return drawn_sizes(x, 4, 6, 0, 9);
-    }
-    if shape == 1 {
-        return drawn_sizes(x, 30, 40, 1, 40);
-    }
-    if shape == 3 {
-        return Sizes {
-            nodes: 1,
-            links: 0,
-            flying: 0,
-        };
-    }
-    let links = if shape == 2 { 256 } else { 20 };
-    Sizes {
-        nodes: 64,
-        links,
-        flying: 256,
-    }
+fn fill_link(draws: &mut Draws, r: &mut Network, s: Sizes, k: usize, bias: usize)
+    requires { k < 256 }
+{
+    let a = draws.below(s.nodes);
+    let b = (a + 1 + draws.below(s.nodes - 1)) % s.nodes;
+    let live = draws.below(8) != 0 || k == 0;
+    fill_end(draws, r, 2 * k, a as u16, bias, live);
+    fill_end(draws, r, 2 * k + 1, b as u16, bias, live);
+    r.live[k] = live;
 }
 
-fn with_end(x: &mut usize, r: Network, i: usize, node: usize, bias: usize, live: bool) -> Network {
-    let o = draw(x, bias);
-    let l = draw(x, 2);
-    let f = draw(x, 2);
-    let m = draw(x, 2);
-    let mut next = r;
-    if i < model::ENDS {
-        next.node[i] = narrow16(node);
-        next.out[i] = o == 0;
-        next.local[i] = l == 1;
-        next.remote[i] = f == 1;
-        next.mark[i] = (m == 1) & live & (o != 0);
-    }
-    next
-}
-
-fn with_link(x: &mut usize, r: Network, bias: usize, k: usize) -> Network {
-    let n = r.nodes;
-    let a = draw(x, n);
-    let d = draw(x, less_one(n));
-    let b = rest(plus(plus(a, 1), d), n);
-    let t = draw(x, 8);
-    let live = (t != 0) | (k == 0);
-    let first = with_end(x, r, double(k), a, bias, live);
-    let mut next = with_end(x, first, plus(double(k), 1), b, bias, live);
-    if k < model::LINKS {
-        next.live[k] = live;
-    }
-    next
-}
-
-fn with_links(x: &mut usize, r: Network, bias: usize) -> Network {
-    let links = least(r.links, model::LINKS);
-    let mut next = r;
-    let mut k: usize = 0;
-    while k < links {
-        next = with_link(x, next, bias, k);
-        k += 1;
-    }
-    next
-}
-
-fn with_counts(x: &mut usize, r: Network) -> Network {
-    let d = draw(x, 50);
-    let l = draw(x, 50);
-    let s = draw(x, 50);
-    let admitted = plus(plus(r.flying, d), plus(l, s));
-    let events = plus(admitted, draw(x, 4));
-    let mut next = r;
-    next.delivered = narrow(d);
-    next.lost = narrow(l);
-    next.stranded = narrow(s);
-    next.admitted = narrow(admitted);
-    next.events = narrow(events);
-    next
-}
-
-pub(crate) fn is_live(live: &[bool; model::LINKS], lane: usize) -> bool {
-    let k = lane / 2;
-    if model::LINKS <= k {
-        return false;
-    }
-    live[k]
+fn count(draws: &mut Draws, r: &mut Network, s: Sizes) {
+    let delivered = draws.below(50) as u32;
+    let lost = draws.below(50) as u32;
+    let stranded = draws.below(50) as u32;
+    let admitted = s.flying as u32 + delivered + lost + stranded;
+    r.delivered = delivered;
+    r.lost = lost;
+    r.stranded = stranded;
+    r.admitted = admitted;
+    r.events = admitted + draws.below(4) as u32;
 }
 
 // The lane, or the first after it on the same side whose link is live.
-fn live_lane(live: &[bool; model::LINKS], lane: usize, lanes: usize) -> usize {
+fn live_lane(live: &[bool; model::LINKS], lane: usize, lanes: usize) -> usize
+    requires lane_in { lane < lanes }
+    requires most { lanes ≤ 512 }
+    ensures { result < lanes }
+{
     let mut y = lane;
-    let mut i: usize = 0;
-    while i < model::LINKS {
-        if is_live(live, y) {
-            return y;
+    for _ in 0..model::LINKS {
+        if live[y / 2] {
+            break;
         }
-        y = rest(plus(y, 2), lanes);
-        i += 1;
+        y = (y + 2) % lanes;
     }
     y
 }
 
-fn with_packet(x: &mut usize, r: Network, j: usize) -> Network {
-    let lanes = double(r.links);
-    let drawn = draw(x, lanes);
-    let lane = live_lane(&r.live, drawn, lanes);
-    let b = draw(x, 2);
-    let number = draw(x, wide(r.admitted));
-    let mut next = r;
-    if j < SLOTS {
-        next.number[j] = narrow(number);
-        next.lane[j] = narrow16(lane);
-        next.bit[j] = b == 1;
-    }
-    next
+fn fill_packet(draws: &mut Draws, r: &mut Network, s: Sizes, j: usize)
+    requires { j < s.flying }
+{
+    let lanes = 2 * s.links;
+    let lane = live_lane(&r.live, draws.below(lanes), lanes);
+    r.lane[j] = lane as u16;
+    r.bit[j] = draws.below(2) == 1;
+    r.number[j] = draws.below(r.admitted as usize) as u32;
 }
 
-fn with_packets(x: &mut usize, r: Network) -> Network {
-    let flying = least(r.flying, model::FLIGHT);
-    let mut next = r;
-    let mut j: usize = 0;
-    while j < flying {
-        next = with_packet(x, next, j);
-        j += 1;
-    }
-    next
-}
-
-fn with_turn(x: &mut usize, r: Network, v: usize) -> Network {
-    let t = draw(x, plus(wide(r.events), 1));
-    let mut next = r;
-    if v < model::NODES {
-        next.turns[v] = narrow(t);
-    }
-    next
-}
-
-fn with_turns(x: &mut usize, r: Network) -> Network {
-    let nodes = least(r.nodes, model::NODES);
-    let mut next = r;
-    let mut v: usize = 0;
-    while v < nodes {
-        next = with_turn(x, next, v);
-        v += 1;
-    }
-    next
-}
-
-pub(crate) fn build(x: &mut usize, s: Sizes) -> Network {
+pub(crate) fn build(draws: &mut Draws, s: Sizes) -> Network {
     let mut r = blank(s);
-    r.destination = draw(x, s.nodes);
-    let bias = plus(2, draw(x, 5));
-    let linked = with_links(x, r, bias);
-    let counted = with_counts(x, linked);
-    let loaded = with_packets(x, counted);
-    with_turns(x, loaded)
+    r.destination = draws.below(s.nodes);
+    let bias = 2 + draws.below(5);
+    for k in 0..s.links {
+        fill_link(draws, &mut r, s, k, bias);
+    }
+    count(draws, &mut r, s);
+    for j in 0..s.flying {
+        fill_packet(draws, &mut r, s, j);
+    }
+    for v in 0..s.nodes {
+        r.turns[v] = draws.below(r.events as usize + 1) as u32;
+    }
+    r
 }

@@ -1,63 +1,44 @@
 // Part `limit`: 1,000,000 accepted events, and then one more of each kind.
-use crate::records::called;
+use crate::event::Event;
 use network::Network;
 use std::io::Result;
-use sums::{HUGE, draw};
+use sums::{Draws, HUGE};
 
 const ROUNDS: usize = 500_000;
 
-fn start() -> Network {
-    let list = [0u32, 1, 0, 2];
-    let o = network::open(3, 0, &list);
-    o.network
-}
-
 // Two accepted events and one that is refused, unseen.
-fn round(r: Network) -> Network {
-    let a = r.send(1);
-    let sent = a.network;
-    let b = sent.deliver(1);
-    let came = b.network;
-    let c = came.deliver(1);
-    c.network
+fn round(r: &mut Network) {
+    *r = r.send(1).network;
+    *r = r.deliver(1).network;
+    *r = r.deliver(1).network;
 }
 
-fn shown_round(out: &impl Print, r: Network) -> Result<Network> {
-    let sent = called(out, r, 1, 1)?;
-    let came = called(out, sent, 2, 1)?;
-    called(out, came, 2, 1)
-}
-
-fn one_round(out: &impl Print, r: Network, i: usize) -> Result<Network> {
-    if (i % 100_000 == 0) | (i == ROUNDS - 1) {
-        return shown_round(out, r);
+fn shown_round(out: &impl Print, r: &mut Network) -> Result<()> {
+    for event in [Event::Send, Event::Deliver, Event::Deliver] {
+        event.call(out, r, 1)?;
     }
-    Ok(round(r))
+    Ok(())
 }
 
-fn all_rounds(out: &impl Print) -> Result<Network> {
-    let mut r = start();
-    let mut i: usize = 0;
-    while i < ROUNDS {
-        r = one_round(out, r, i)?;
-        i += 1;
+fn past(out: &impl Print, draws: &mut Draws, r: &mut Network, event: Event) -> Result<()> {
+    let z = draws.below(8);
+    for argument in [0, 1, z, HUGE] {
+        event.call(out, r, argument)?;
     }
-    Ok(r)
+    Ok(())
 }
 
-fn past(out: &impl Print, x: &mut usize, r: Network, kind: usize) -> Result<Network> {
-    let z = draw(x, 8);
-    let a = called(out, r, kind, 0)?;
-    let b = called(out, a, kind, 1)?;
-    let c = called(out, b, kind, z)?;
-    called(out, c, kind, HUGE)
-}
-
-pub(crate) fn part(out: &impl Print, x: &mut usize) -> Result<()> {
-    let full = all_rounds(out)?;
-    let sent = past(out, x, full, 1)?;
-    let delivered = past(out, x, sent, 2)?;
-    let lost = past(out, x, delivered, 3)?;
-    past(out, x, lost, 4)?;
+pub(crate) fn part(out: &impl Print, draws: &mut Draws) -> Result<()> {
+    let mut r = network::open(3, 0, &[0, 1, 0, 2]).network;
+    for i in 0..ROUNDS {
+        if i % 100_000 == 0 || i == ROUNDS - 1 {
+            shown_round(out, &mut r)?;
+        } else {
+            round(&mut r);
+        }
+    }
+    for event in [Event::Send, Event::Deliver, Event::Lose, Event::Fail] {
+        past(out, draws, &mut r, event)?;
+    }
     Ok(())
 }

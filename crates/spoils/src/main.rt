@@ -2,20 +2,18 @@
 #![tactic(auto)]
 
 mod build;
+mod event;
 mod limit;
-mod line;
-mod number;
 mod records;
+mod sizes;
 mod spoil;
 
 use std::io;
-use sums::start;
+use sums::Draws;
 
 const SEED: usize = 1;
 
 fn main(rt: HostRuntime) -> io::Result<()> {
-    let mut record = start(SEED, 1);
-    records::part(&rt, &mut record)?;
-    let mut last = start(SEED, 4);
-    limit::part(&rt, &mut last)
+    records::part(&rt, &mut Draws::start(SEED, 1))?;
+    limit::part(&rt, &mut Draws::start(SEED, 4))
 }

@@ -6,6 +6,9 @@ ghost use Rattle.std.specs.Io.KnownBytes.{Consumes, IsAtEnd};
 
 use std::io::{Read, Result};
 
+// Room for a drill file: one byte more than it may have, so that a longer one is seen.
+pub const INPUT: usize = model::FILE + 1;
+
 // Reads until the part is full or the stream ends: how many bytes stand at the part's front.
 pub fn read_full<R: Read>(from: &mut R, part: &mut [u8]) -> Result<usize>
     ensures within { IfOk result (λ n. n ≤ length part.new) }

@@ -5,7 +5,7 @@ use mathlib.Core.Path.{◌≡◌, refl, sym, ap, ◌∙◌}
 use mathlib.Core.List.{List, [], ◌∷◌, ◌++◌}
 use lib.ListN.{length, get_or, take}
 use lib.Seq.{take-suc}
-use Rattle.sums.specs.Sums.{summed, sum_from, sum_of, each}
+use Rattle.sums.specs.Sums.{summed, sum_from, each}
 
 sum_append : (h : ℕ) (a b : List ℕ) → sum_from h (a ++ b) ≡ sum_from (sum_from h a) b
 sum_append h [] b = refl
@@ -20,18 +20,7 @@ pub sum_step : (h : ℕ) (f : ℕ → List ℕ) (k s t : ℕ) → s ≡ sum_from
 unfolding each
 sum_step h f k s t e e' = sum_then h (each f k) (f k) s t e e' ∙ ap (λ (n : ℕ). sum_from h (each f n)) (sym (add-one k))
 
-pub bytes_step : (b : List ℕ) (i s t : ℕ) → i < length b → s ≡ sum_of (take i b) → t ≡ summed s (get_or b i 0) → t ≡ sum_of (take (i + 1) b)
-bytes_step b i s t l e e' =
-    sum_then 1 (take i b) (get_or b i 0 ∷ []) s t e e' ∙ ap sum_of (sym (take-suc b i 0 l) ∙ ap (λ (n : ℕ). take n b) (sym (add-one i)))
-
--- three values, each as what it was read as
-pub sum_three :
-    (h x y z a b c s t u : ℕ)
-    → a ≡ x
-    → s ≡ summed h a
-    → b ≡ y
-    → t ≡ summed s b
-    → c ≡ z
-    → u ≡ summed t c
-    → u ≡ sum_from h (x ∷ y ∷ z ∷ [])
-sum_three h x y z a b c s t u ea es eb et ec eu = cc
+-- the same of a list's values
+pub values_step : (h : ℕ) (b : List ℕ) (i s t : ℕ) → i < length b → s ≡ sum_from h (take i b) → t ≡ summed s (get_or b i 0) → t ≡ sum_from h (take (i + 1) b)
+values_step h b i s t l e e' =
+    sum_then h (take i b) (get_or b i 0 ∷ []) s t e e' ∙ ap (sum_from h) (sym (take-suc b i 0 l) ∙ ap (λ (n : ℕ). take n b) (sym (add-one i)))

@@ -3,8 +3,6 @@ ghost use Rattle.std.specs.Prelude.{◌≡◌, ◌<◌, min};
 ghost use Rattle.model.specs.Limits.{nodes_most, links_most, ends_most, flight_most};
 ghost use Rattle.sums.specs.Sums.{summed, sum_from, sum_of, each, counts_in, end_at, link_at, turns_at, packet_at, of_record};
 
-use crate::number::{bit, least, wide, wide8, wide16};
-use arrays::SLOTS;
 use network::Network;
 
 const MULTIPLIER: usize = 48_271;
@@ -17,115 +15,99 @@ fn add(h: usize, value: usize) -> usize
     (h % MODULUS * MULTIPLIER + value % MODULUS) % MODULUS
 }
 
-fn of_counts(n: Network) -> usize
-    ensures { result ≡ sum_of (counts_in n) }
+fn of_values(h: usize, values: &[usize]) -> usize
+    ensures { result ≡ sum_from h values.now }
 {
-    let a = add(add(add(1, n.nodes), n.destination), n.links);
-    let b = add(add(add(a, n.flying), wide(n.events)), wide(n.admitted));
-    add(
-        add(add(b, wide(n.delivered)), wide(n.lost)),
-        wide(n.stranded),
-    )
+    let mut sum = h;
+    for &value in values {
+        sum = add(sum, value);
+    }
+    sum
 }
 
-fn of_end<'a>(
-    h: usize,
-    out: &'a [bool; model::ENDS],
-    local: &'a [bool; model::ENDS],
-    remote: &'a [bool; model::ENDS],
-    mark: &'a [bool; model::ENDS],
-    x: usize,
-) -> usize
+fn of_counts(n: &Network) -> usize
+    ensures { result ≡ sum_of (counts_in n.now) }
+{
+    let counts = [
+        n.nodes,
+        n.destination,
+        n.links,
+        n.flying,
+        n.events as usize,
+        n.admitted as usize,
+        n.delivered as usize,
+        n.lost as usize,
+        n.stranded as usize,
+    ];
+    of_values(1, &counts)
+}
+
+fn of_end(h: usize, n: &Network, x: usize) -> usize
     requires { x < ends_most }
-    ensures { result ≡ sum_from h (end_at out.now local.now remote.now mark.now x) }
+    ensures { result ≡ sum_from h (end_at n.now.out n.now.local n.now.remote n.now.mark x) }
 {
-    let a = add(add(h, bit(out[x])), bit(local[x]));
-    add(add(a, bit(remote[x])), bit(mark[x]))
+    let end = [
+        usize::from(n.out[x]),
+        usize::from(n.local[x]),
+        usize::from(n.remote[x]),
+        usize::from(n.mark[x]),
+    ];
+    of_values(h, &end)
 }
 
-fn of_link<'a>(
-    h: usize,
-    node: &'a [u16; model::ENDS],
-    live: &'a [bool; model::LINKS],
-    out: &'a [bool; model::ENDS],
-    local: &'a [bool; model::ENDS],
-    remote: &'a [bool; model::ENDS],
-    mark: &'a [bool; model::ENDS],
-    k: usize,
-) -> usize
+fn of_link(h: usize, n: &Network, k: usize) -> usize
     requires { k < links_most }
-    ensures { result ≡ sum_from h (link_at node.now live.now out.now local.now remote.now mark.now k) }
+    ensures { result ≡ sum_from h (link_at n.now.node n.now.live n.now.out n.now.local n.now.remote n.now.mark k) }
 {
-    let a = add(h, wide16(node[2 * k]));
-    let joined = add(add(a, wide16(node[2 * k + 1])), bit(live[k]));
-    let first = of_end(joined, out, local, remote, mark, 2 * k);
-    of_end(first, out, local, remote, mark, 2 * k + 1)
+    let link = [
+        n.node[2 * k] as usize,
+        n.node[2 * k + 1] as usize,
+        usize::from(n.live[k]),
+    ];
+    let joined = of_values(h, &link);
+    let first = of_end(joined, n, 2 * k);
+    of_end(first, n, 2 * k + 1)
 }
 
-fn of_links<'a>(
-    h: usize,
-    node: &'a [u16; model::ENDS],
-    live: &'a [bool; model::LINKS],
-    out: &'a [bool; model::ENDS],
-    local: &'a [bool; model::ENDS],
-    remote: &'a [bool; model::ENDS],
-    mark: &'a [bool; model::ENDS],
-    links: usize,
-) -> usize
-    ensures { result ≡ sum_from h (each (link_at node.now live.now out.now local.now remote.now mark.now) (min links links_most)) }
+fn of_links(h: usize, n: &Network) -> usize
+    ensures { let link = link_at n.now.node n.now.live n.now.out n.now.local n.now.remote n.now.mark in
+        result ≡ sum_from h (each link (min n.now.links links_most)) }
 {
     let mut sum = h;
-    let used = least(links, model::LINKS);
-    let mut k: usize = 0;
-    while k < used {
-        sum = of_link(sum, node, live, out, local, remote, mark, k);
-        k += 1;
+    for k in 0..n.links.min(model::LINKS) {
+        sum = of_link(sum, n, k);
     }
     sum
 }
 
-fn of_turns(h: usize, turns: &[u32; model::NODES], nodes: usize) -> usize
-    ensures { result ≡ sum_from h (each (turns_at turns.now) (min nodes nodes_most)) }
+fn of_turns(h: usize, n: &Network) -> usize
+    ensures { result ≡ sum_from h (each (turns_at n.now.turns) (min n.now.nodes nodes_most)) }
 {
     let mut sum = h;
-    let used = least(nodes, model::NODES);
-    let mut v: usize = 0;
-    while v < used {
-        sum = add(sum, wide(turns[v]));
-        v += 1;
+    for v in 0..n.nodes.min(model::NODES) {
+        sum = add(sum, n.turns[v] as usize);
     }
     sum
 }
 
-fn of_packet<'a>(
-    h: usize,
-    number: &'a [u32; SLOTS],
-    lane: &'a [u16; SLOTS],
-    bits: &'a [bool; SLOTS],
-    j: usize,
-) -> usize
+fn of_packet(h: usize, n: &Network, j: usize) -> usize
     requires { j < flight_most }
-    ensures { result ≡ sum_from h (packet_at number.now lane.now bits.now j) }
+    ensures { result ≡ sum_from h (packet_at n.now.number n.now.lane n.now.bit j) }
 {
-    let a = add(add(h, wide(number[j])), wide16(lane[j]));
-    add(a, bit(bits[j]))
+    let packet = [
+        n.number[j] as usize,
+        n.lane[j] as usize,
+        usize::from(n.bit[j]),
+    ];
+    of_values(h, &packet)
 }
 
-fn of_packets<'a>(
-    h: usize,
-    number: &'a [u32; SLOTS],
-    lane: &'a [u16; SLOTS],
-    bits: &'a [bool; SLOTS],
-    flying: usize,
-) -> usize
-    ensures { result ≡ sum_from h (each (packet_at number.now lane.now bits.now) (min flying flight_most)) }
+fn of_packets(h: usize, n: &Network) -> usize
+    ensures { result ≡ sum_from h (each (packet_at n.now.number n.now.lane n.now.bit) (min n.now.flying flight_most)) }
 {
     let mut sum = h;
-    let used = least(flying, model::FLIGHT);
-    let mut j: usize = 0;
-    while j < used {
-        sum = of_packet(sum, number, lane, bits, j);
-        j += 1;
+    for j in 0..n.flying.min(model::FLIGHT) {
+        sum = of_packet(sum, n, j);
     }
     sum
 }
@@ -133,22 +115,18 @@ fn of_packets<'a>(
 pub fn of_record(n: Network) -> usize
     ensures { result ≡ of_record n }
 {
-    let a = of_counts(n);
-    let b = of_links(
-        a, &n.node, &n.live, &n.out, &n.local, &n.remote, &n.mark, n.links,
-    );
-    let c = of_turns(b, &n.turns, n.nodes);
-    of_packets(c, &n.number, &n.lane, &n.bit, n.flying)
+    let a = of_counts(&n);
+    let b = of_links(a, &n);
+    let c = of_turns(b, &n);
+    of_packets(c, &n)
 }
 
 pub fn of_bytes(bytes: &[u8]) -> usize
     ensures { result ≡ sum_of bytes.now }
 {
     let mut sum: usize = 1;
-    let mut i: usize = 0;
-    while i < bytes.len() {
-        sum = add(sum, wide8(bytes[i]));
-        i += 1;
+    for &byte in bytes {
+        sum = add(sum, byte as usize);
     }
     sum
 }

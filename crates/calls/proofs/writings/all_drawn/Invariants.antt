@@ -1,9 +1,0 @@
--- The drawn openings so far are written. Assumes nothing.
-use Rattle.std.proofs.Common.{◌≤◌, ◌-◌}
-use Rattle.calls.proofs.writings.all_drawn.Given as goal
-
-abbrev pub invariant-loop-i : goal.invariant-loop-i
-invariant-loop-i g l = l.i ≤ 20
-
-abbrev pub decreases-loop-i : goal.decreases-loop-i
-decreases-loop-i g l = 20 - l.i

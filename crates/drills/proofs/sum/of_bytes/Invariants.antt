@@ -1,9 +1,0 @@
--- The bytes so far are summed. Assumes nothing.
-use Rattle.std.proofs.Common.{length, ◌≤◌, ◌-◌}
-use Rattle.drills.proofs.sum.of_bytes.Given as goal
-
-abbrev pub invariant-loop-i : goal.invariant-loop-i
-invariant-loop-i l = l.i ≤ length l.bytes
-
-abbrev pub decreases-loop-i : goal.decreases-loop-i
-decreases-loop-i l = length l.bytes - l.i

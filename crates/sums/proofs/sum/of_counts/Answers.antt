@@ -1,5 +1,0 @@
--- One value after the other. Assumes nothing.
-use Rattle.sums.proofs.sum.of_counts.Goals as goal
-
-pub returns : goal.returns
-returns c = cc
