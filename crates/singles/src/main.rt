@@ -1,10 +1,9 @@
 // The events of a drill file, each by a single call in place: a sum of what they gave, for the benchmark.
 #![tactic(auto)]
 
-use arrays::Tally;
 use departs::Step;
 use model::{Handled, Went};
-use network::Network;
+use network::{Network, Tally};
 use std::io;
 use streams::INPUT;
 
@@ -35,22 +34,12 @@ fn noted(sum: usize, answer: usize, packet: usize, way: usize) -> usize {
     (sum % MODULUS * MULTIPLIER + answer % 16 + 16 * (packet % 1_048_576) + way % 1024) % MODULUS
 }
 
-// An event on the record's arrays, in place.
+// An event on the record, in place; the tally goes by value, which is faster.
 fn event(n: &mut Network, tally: Tally, kind: u32, argument: u32) -> Step {
     lent::apply(
-        &n.node,
-        &mut n.live,
-        &mut n.out,
-        &mut n.local,
-        &mut n.remote,
-        &mut n.mark,
-        &mut n.turns,
-        &mut n.number,
-        &mut n.lane,
-        &mut n.bit,
-        n.nodes,
-        n.destination,
-        n.links,
+        &n.plan,
+        &mut n.arrows,
+        &mut n.flight,
         tally,
         kind,
         argument as usize,
@@ -60,7 +49,7 @@ fn event(n: &mut Network, tally: Tally, kind: u32, argument: u32) -> Step {
 // As many events as there are bytes at most: each has two.
 fn calls(file: &[u8], from: usize, opened: Network) -> usize {
     let mut network = opened;
-    let mut tally = opened.tally();
+    let mut tally = opened.tally;
     let mut at = from;
     let mut sum = 1;
     for _ in 0..INPUT {
@@ -70,13 +59,13 @@ fn calls(file: &[u8], from: usize, opened: Network) -> usize {
         };
         at = got.next.at;
         let m = event(&mut network, tally, read.kind, read.argument);
+        tally = m.tally;
         sum = noted(
             sum,
             m.answer as usize,
             packet_code(m.handled),
             way_code(m.went),
         );
-        tally = m.tally;
     }
     sum
 }

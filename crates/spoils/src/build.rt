@@ -3,30 +3,38 @@ ghost use Rattle.std.specs.Prelude.{◌+◌, ◌*◌, ◌<◌, ◌≤◌};
 
 use crate::sizes::Sizes;
 use arrays::SLOTS;
-use network::Network;
+use network::{Arrows, Flight, Network, Plan, Tally};
 use sums::Draws;
 
 fn blank(s: Sizes) -> Network {
     Network {
-        node: [0; model::ENDS],
-        live: [false; model::LINKS],
-        out: [false; model::ENDS],
-        local: [false; model::ENDS],
-        remote: [false; model::ENDS],
-        mark: [false; model::ENDS],
-        turns: [0; model::NODES],
-        number: [0; SLOTS],
-        lane: [0; SLOTS],
-        bit: [false; SLOTS],
-        nodes: s.nodes,
-        destination: 0,
-        links: s.links,
-        flying: s.flying,
-        events: 0,
-        admitted: 0,
-        delivered: 0,
-        lost: 0,
-        stranded: 0,
+        plan: Plan {
+            node: [0; model::ENDS],
+            nodes: s.nodes,
+            destination: 0,
+            links: s.links,
+        },
+        arrows: Arrows {
+            live: [false; model::LINKS],
+            out: [false; model::ENDS],
+            local: [false; model::ENDS],
+            remote: [false; model::ENDS],
+            mark: [false; model::ENDS],
+            turns: [0; model::NODES],
+        },
+        flight: Flight {
+            number: [0; SLOTS],
+            lane: [0; SLOTS],
+            bit: [false; SLOTS],
+        },
+        tally: Tally {
+            flying: s.flying,
+            events: 0,
+            admitted: 0,
+            delivered: 0,
+            lost: 0,
+            stranded: 0,
+        },
     }
 }
 
@@ -34,11 +42,11 @@ fn fill_end(draws: &mut Draws, r: &mut Network, x: usize, node: u16, bias: usize
     requires { x < 512 }
 {
     let out = draws.below(bias) == 0;
-    r.node[x] = node;
-    r.out[x] = out;
-    r.local[x] = draws.below(2) == 1;
-    r.remote[x] = draws.below(2) == 1;
-    r.mark[x] = draws.below(2) == 1 && live && !out;
+    r.plan.node[x] = node;
+    r.arrows.out[x] = out;
+    r.arrows.local[x] = draws.below(2) == 1;
+    r.arrows.remote[x] = draws.below(2) == 1;
+    r.arrows.mark[x] = draws.below(2) == 1 && live && !out;
 }
 
 fn fill_link(draws: &mut Draws, r: &mut Network, s: Sizes, k: usize, bias: usize)
@@ -49,19 +57,19 @@ fn fill_link(draws: &mut Draws, r: &mut Network, s: Sizes, k: usize, bias: usize
     let live = draws.below(8) != 0 || k == 0;
     fill_end(draws, r, 2 * k, a as u16, bias, live);
     fill_end(draws, r, 2 * k + 1, b as u16, bias, live);
-    r.live[k] = live;
+    r.arrows.live[k] = live;
 }
 
-fn count(draws: &mut Draws, r: &mut Network, s: Sizes) {
+fn count(draws: &mut Draws, t: &mut Tally, s: Sizes) {
     let delivered = draws.below(50) as u32;
     let lost = draws.below(50) as u32;
     let stranded = draws.below(50) as u32;
     let admitted = s.flying as u32 + delivered + lost + stranded;
-    r.delivered = delivered;
-    r.lost = lost;
-    r.stranded = stranded;
-    r.admitted = admitted;
-    r.events = admitted + draws.below(4) as u32;
+    t.delivered = delivered;
+    t.lost = lost;
+    t.stranded = stranded;
+    t.admitted = admitted;
+    t.events = admitted + draws.below(4) as u32;
 }
 
 // The lane, or the first after it on the same side whose link is live.
@@ -84,25 +92,25 @@ fn fill_packet(draws: &mut Draws, r: &mut Network, s: Sizes, j: usize)
     requires { j < s.flying }
 {
     let lanes = 2 * s.links;
-    let lane = live_lane(&r.live, draws.below(lanes), lanes);
-    r.lane[j] = lane as u16;
-    r.bit[j] = draws.below(2) == 1;
-    r.number[j] = draws.below(r.admitted as usize) as u32;
+    let lane = live_lane(&r.arrows.live, draws.below(lanes), lanes);
+    r.flight.lane[j] = lane as u16;
+    r.flight.bit[j] = draws.below(2) == 1;
+    r.flight.number[j] = draws.below(r.tally.admitted as usize) as u32;
 }
 
 pub(crate) fn build(draws: &mut Draws, s: Sizes) -> Network {
     let mut r = blank(s);
-    r.destination = draws.below(s.nodes);
+    r.plan.destination = draws.below(s.nodes);
     let bias = 2 + draws.below(5);
     for k in 0..s.links {
         fill_link(draws, &mut r, s, k, bias);
     }
-    count(draws, &mut r, s);
+    count(draws, &mut r.tally, s);
     for j in 0..s.flying {
         fill_packet(draws, &mut r, s, j);
     }
     for v in 0..s.nodes {
-        r.turns[v] = draws.below(r.events as usize + 1) as u32;
+        r.arrows.turns[v] = draws.below(r.tally.events as usize + 1) as u32;
     }
     r
 }

@@ -49,11 +49,11 @@ fn wild(i: usize, s: Sizes) -> usize {
 
 // A lane: often, as it now is, that of a drawn packet.
 fn lane(draws: &mut Draws, s: Sizes, r: &Network, t: usize) -> usize {
-    let flying = r.flying.min(model::FLIGHT);
+    let flying = r.tally.flying.min(model::FLIGHT);
     if t == 1 || flying == 0 {
         return draws.below(2 * s.links + 1);
     }
-    r.lane[draws.below(flying)] as usize
+    r.flight.lane[draws.below(flying)] as usize
 }
 
 fn argument(draws: &mut Draws, s: Sizes, r: &Network, event: Event) -> usize {

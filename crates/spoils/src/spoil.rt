@@ -2,7 +2,7 @@
 ghost use Rattle.std.specs.Prelude.{◌<◌, IfSome};
 
 use crate::sizes::Sizes;
-use network::Network;
+use network::{Arrows, Network, Tally};
 use sums::{Draws, HUGE};
 
 pub(crate) const SPOILS: usize = 94;
@@ -64,14 +64,14 @@ fn new_flying(number: usize, s: Sizes) -> usize {
 // 1 to 29: the sizes.
 fn spoil_sizes(s: Sizes, r: &mut Network, number: usize) {
     match number {
-        1..=8 => r.nodes = new_nodes(number, s, r.destination),
-        9..=13 => r.destination = new_destination(number, s),
-        14..=21 => r.links = new_links(number, s),
-        _ => r.flying = new_flying(number, s),
+        1..=8 => r.plan.nodes = new_nodes(number, s, r.plan.destination),
+        9..=13 => r.plan.destination = new_destination(number, s),
+        14..=21 => r.plan.links = new_links(number, s),
+        _ => r.tally.flying = new_flying(number, s),
     }
     if number == 29 {
-        r.admitted = r.admitted.wrapping_add(1);
-        r.events = r.events.wrapping_add(1);
+        r.tally.admitted = r.tally.admitted.wrapping_add(1);
+        r.tally.events = r.tally.events.wrapping_add(1);
     }
 }
 
@@ -88,15 +88,15 @@ fn new_node(number: usize, n: u16, other: u16) -> u16 {
 }
 
 // 37 to 41: what is true of end y or its link is false, and back.
-fn turn_over(r: &mut Network, y: usize, number: usize)
+fn turn_over(a: &mut Arrows, y: usize, number: usize)
     requires { y < 512 }
 {
     match number {
-        37 => r.live[y / 2] = !r.live[y / 2],
-        38 => r.out[y] = !r.out[y],
-        39 => r.local[y] = !r.local[y],
-        40 => r.remote[y] = !r.remote[y],
-        _ => r.mark[y] = !r.mark[y],
+        37 => a.live[y / 2] = !a.live[y / 2],
+        38 => a.out[y] = !a.out[y],
+        39 => a.local[y] = !a.local[y],
+        40 => a.remote[y] = !a.remote[y],
+        _ => a.mark[y] = !a.mark[y],
     }
 }
 
@@ -113,14 +113,14 @@ fn fits(number: usize, live: bool, out: bool, mark: bool) -> bool {
 }
 
 // The first lane from y on, round the last, whose end fits.
-fn found(s: Sizes, r: &Network, y: usize, number: usize) -> Option<usize>
+fn found(s: Sizes, a: &Arrows, y: usize, number: usize) -> Option<usize>
     requires { y < 512 }
     ensures { IfSome result (λ z. z < 512) }
 {
     let lanes = 2 * s.links;
     for i in 0..lanes {
         let z = (y + i) % lanes;
-        if fits(number, r.live[z / 2], r.out[z], r.mark[z]) {
+        if fits(number, a.live[z / 2], a.out[z], a.mark[z]) {
             return Some(z);
         }
     }
@@ -128,18 +128,18 @@ fn found(s: Sizes, r: &Network, y: usize, number: usize) -> Option<usize>
 }
 
 // 42 to 49: an end that is looked for.
-fn spoil_found(s: Sizes, r: &mut Network, y: usize, number: usize)
+fn spoil_found(s: Sizes, a: &mut Arrows, y: usize, number: usize)
     requires { y < 512 }
 {
-    let Some(z) = found(s, r, y, number) else {
+    let Some(z) = found(s, a, y, number) else {
         return;
     };
     match number {
-        42 => r.out[z] = true,
-        43 => r.mark[z] = false,
-        48 => r.live[z / 2] = false,
-        49 => r.live[z / 2] = true,
-        _ => r.mark[z] = true,
+        42 => a.out[z] = true,
+        43 => a.mark[z] = false,
+        48 => a.live[z / 2] = false,
+        49 => a.live[z / 2] = true,
+        _ => a.mark[z] = true,
     }
 }
 
@@ -178,12 +178,12 @@ fn chosen(draws: &mut Draws, s: Sizes) -> Drawn {
 fn spoil_side(s: Sizes, r: &mut Network, d: Drawn, number: usize) {
     match number {
         30..=36 => {
-            let other = r.node[d.end ^ 1];
-            r.node[d.end] = new_node(number, s.nodes as u16, other);
+            let other = r.plan.node[d.end ^ 1];
+            r.plan.node[d.end] = new_node(number, s.nodes as u16, other);
         }
-        37..=41 => turn_over(r, d.end, number),
-        42..=49 => spoil_found(s, r, d.end, number),
-        _ => r.turns[d.node] = new_turns(number, r.events),
+        37..=41 => turn_over(&mut r.arrows, d.end, number),
+        42..=49 => spoil_found(s, &mut r.arrows, d.end, number),
+        _ => r.arrows.turns[d.node] = new_turns(number, r.tally.events),
     }
 }
 
@@ -212,19 +212,19 @@ fn new_lane(number: usize, lanes: u16) -> u16 {
 fn spoil_packet(s: Sizes, r: &mut Network, d: Drawn, number: usize) {
     let j = d.packet;
     match number {
-        55..=59 => r.number[j] = new_number(number, r.admitted),
+        55..=59 => r.flight.number[j] = new_number(number, r.tally.admitted),
         // the lane of an end on a link that is down, if there is one
         63 => {
-            if let Some(z) = found(s, r, d.end, 49) {
-                r.lane[j] = z as u16;
+            if let Some(z) = found(s, &r.arrows, d.end, 49) {
+                r.flight.lane[j] = z as u16;
             }
         }
-        60..=66 => r.lane[j] = new_lane(number, 2 * s.links as u16),
-        67 => r.bit[j] = !r.bit[j],
+        60..=66 => r.flight.lane[j] = new_lane(number, 2 * s.links as u16),
+        67 => r.flight.bit[j] = !r.flight.bit[j],
         _ => {
-            let k = r.lane[j] as usize / 2;
+            let k = r.flight.lane[j] as usize / 2;
             if k < model::LINKS {
-                r.live[k] = false;
+                r.arrows.live[k] = false;
             }
         }
     }
@@ -252,23 +252,23 @@ fn changed(how: usize, count: u32) -> u32 {
 }
 
 // 69 to 90: the counts of events and of packets.
-fn spoil_counts(r: &mut Network, number: usize) {
+fn spoil_counts(t: &mut Tally, number: usize) {
     match number {
-        69..=75 => r.events = new_events(number, r.admitted),
-        76 => r.admitted = r.admitted.wrapping_add(1),
-        77 => r.admitted = r.admitted.saturating_sub(1),
-        78 => r.admitted = 0,
-        79 => r.admitted = u32::MAX,
-        80..=82 => r.delivered = changed(number - 80, r.delivered),
-        83..=85 => r.lost = changed(number - 83, r.lost),
-        86..=88 => r.stranded = changed(number - 86, r.stranded),
+        69..=75 => t.events = new_events(number, t.admitted),
+        76 => t.admitted = t.admitted.wrapping_add(1),
+        77 => t.admitted = t.admitted.saturating_sub(1),
+        78 => t.admitted = 0,
+        79 => t.admitted = u32::MAX,
+        80..=82 => t.delivered = changed(number - 80, t.delivered),
+        83..=85 => t.lost = changed(number - 83, t.lost),
+        86..=88 => t.stranded = changed(number - 86, t.stranded),
         89 => {
-            r.admitted = r.admitted.wrapping_add(1);
-            r.delivered = r.delivered.wrapping_add(1);
+            t.admitted = t.admitted.wrapping_add(1);
+            t.delivered = t.delivered.wrapping_add(1);
         }
         _ => {
-            r.lost = r.lost.wrapping_add(r.delivered).wrapping_add(1);
-            r.delivered = u32::MAX;
+            t.lost = t.lost.wrapping_add(t.delivered).wrapping_add(1);
+            t.delivered = u32::MAX;
         }
     }
 }
@@ -276,14 +276,14 @@ fn spoil_counts(r: &mut Network, number: usize) {
 // 91 to 93: the entry just past those used, which may hold anything.
 fn spoil_unused(s: Sizes, r: &mut Network, number: usize) {
     match number {
-        91 if s.nodes < model::NODES => r.turns[s.nodes] = u32::MAX,
+        91 if s.nodes < model::NODES => r.arrows.turns[s.nodes] = u32::MAX,
         92 if s.links < model::LINKS => {
-            r.node[2 * s.links] = FAR;
-            r.mark[2 * s.links + 1] = true;
+            r.plan.node[2 * s.links] = FAR;
+            r.arrows.mark[2 * s.links + 1] = true;
         }
         93 if s.flying < model::FLIGHT => {
-            r.number[s.flying] = u32::MAX;
-            r.lane[s.flying] = FAR;
+            r.flight.number[s.flying] = u32::MAX;
+            r.flight.lane[s.flying] = FAR;
         }
         _ => {}
     }
@@ -296,7 +296,7 @@ pub(crate) fn spoil(draws: &mut Draws, s: Sizes, r: &mut Network, number: usize)
         1..=29 => spoil_sizes(s, r, number),
         30..=54 => spoil_side(s, r, d, number),
         55..=68 => spoil_packet(s, r, d, number),
-        69..=90 => spoil_counts(r, number),
+        69..=90 => spoil_counts(&mut r.tally, number),
         _ => spoil_unused(s, r, number),
     }
 }

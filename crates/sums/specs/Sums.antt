@@ -1,6 +1,9 @@
 -- "Checksum" of docs/CALLS.md.
 use Rattle.std.specs.Prelude.{ℕ, zero, suc, ◌+◌, ◌*◌, ◌%◌, min, Bool, false, cond, List, [], ◌∷◌, ◌++◌, get_or}
 use Rattle.model.specs.Limits.{nodes_most, links_most, flight_most}
+use Rattle.arrays.specs.declared.record.Plan.{Plan}
+use Rattle.arrays.specs.declared.record.Arrows.{Arrows}
+use Rattle.arrays.specs.declared.record.Flight.{Flight}
 use Rattle.network.specs.declared.record.Network.{Network}
 
 -- "sum of values: h = 1; for each value h = (h * 48271 + value) mod 4294967291"
@@ -26,41 +29,45 @@ bit_of b = cond b 1 0
 -- 1. "nodes, destination, links, in flight, events, admitted, delivered, lost, stranded, each as it is"
 abbrev pub counts_in : Network → List ℕ
 counts_in r =
-    r.nodes
-    ∷ r.destination
-    ∷ r.links
-    ∷ r.flying
-    ∷ r.events
-    ∷ r.admitted
-    ∷ r.delivered
-    ∷ r.lost
-    ∷ r.stranded
+    r.plan.nodes
+    ∷ r.plan.destination
+    ∷ r.plan.links
+    ∷ r.tally.flying
+    ∷ r.tally.events
+    ∷ r.tally.admitted
+    ∷ r.tally.delivered
+    ∷ r.tally.lost
+    ∷ r.tally.stranded
     ∷ []
 
 -- 2. "for each of the first min(links, 256) links: node of end 0, node of end 1, live; then for end 0 and then end 1: direction (Out 1, In 0), local bit, remote bit, mark"
-abbrev pub end_at : List Bool → List Bool → List Bool → List Bool → ℕ → List ℕ
-end_at out local remote mark x =
-    bit_of (get_or out x false) ∷ bit_of (get_or local x false) ∷ bit_of (get_or remote x false) ∷ bit_of (get_or mark x false) ∷ []
+abbrev pub end_at : Arrows → ℕ → List ℕ
+end_at a x =
+    bit_of (get_or a.out x false)
+    ∷ bit_of (get_or a.local x false)
+    ∷ bit_of (get_or a.remote x false)
+    ∷ bit_of (get_or a.mark x false)
+    ∷ []
 
-abbrev pub link_at : List ℕ → List Bool → List Bool → List Bool → List Bool → List Bool → ℕ → List ℕ
-link_at node live out local remote mark k =
-    (get_or node (2 * k) 0 ∷ get_or node (2 * k + 1) 0 ∷ bit_of (get_or live k false) ∷ [])
-    ++ end_at out local remote mark (2 * k)
-    ++ end_at out local remote mark (2 * k + 1)
+abbrev pub link_at : Plan → Arrows → ℕ → List ℕ
+link_at p a k =
+    (get_or p.node (2 * k) 0 ∷ get_or p.node (2 * k + 1) 0 ∷ bit_of (get_or a.live k false) ∷ [])
+    ++ end_at a (2 * k)
+    ++ end_at a (2 * k + 1)
 
 -- 3. "for each of the first min(nodes, 64) nodes: turns"
-abbrev pub turns_at : List ℕ → ℕ → List ℕ
-turns_at turns v = get_or turns v 0 ∷ []
+abbrev pub turns_at : Arrows → ℕ → List ℕ
+turns_at a v = get_or a.turns v 0 ∷ []
 
 -- 4. "for each of the first min(in flight, 256) packets, oldest first: number, lane, bit"
-abbrev pub packet_at : List ℕ → List ℕ → List Bool → ℕ → List ℕ
-packet_at number lane bit j = get_or number j 0 ∷ get_or lane j 0 ∷ bit_of (get_or bit j false) ∷ []
+abbrev pub packet_at : Flight → ℕ → List ℕ
+packet_at f j = get_or f.number j 0 ∷ get_or f.lane j 0 ∷ bit_of (get_or f.bit j false) ∷ []
 
 -- "Sum of a record, over these values in this order": the four points
 unfoldable pub of_record : Network → ℕ
 of_record r =
     sum_of
     (counts_in r
-    ++ each (link_at r.node r.live r.out r.local r.remote r.mark) (min r.links links_most)
-    ++ each (turns_at r.turns) (min r.nodes nodes_most)
-    ++ each (packet_at r.number r.lane r.bit) (min r.flying flight_most))
+    ++ each (link_at r.plan r.arrows) (min r.plan.links links_most)
+    ++ each (turns_at r.arrows) (min r.plan.nodes nodes_most)
+    ++ each (packet_at r.flight) (min r.tally.flying flight_most))

@@ -8,4 +8,4 @@ unfolding each
 loop-k-init c = refl
 
 pub loop-k-preserved : goal.loop-k-preserved
-loop-k-preserved c = sum_step _ (link_at c.args.n.now.node c.args.n.now.live c.args.n.now.out c.args.n.now.local c.args.n.now.remote c.args.n.now.mark) _ _ _ c.loop-k.invariant c.of_link-sum.ensures
+loop-k-preserved c = sum_step _ (link_at c.args.p.now c.args.a.now) _ _ _ c.loop-k.invariant c.of_link-sum.ensures

@@ -4,4 +4,4 @@ use Rattle.sums.specs.Sums.{sum_from, each, link_at}
 use Rattle.sums.proofs.sum.of_links.Given as goal
 
 abbrev pub invariant-loop-k : goal.invariant-loop-k
-invariant-loop-k l = l.sum ≡ sum_from l.h (each (link_at l.n.node l.n.live l.n.out l.n.local l.n.remote l.n.mark) l.k)
+invariant-loop-k l = l.sum ≡ sum_from l.h (each (link_at l.p l.a) l.k)

@@ -8,4 +8,4 @@ unfolding each
 loop-j-init c = refl
 
 pub loop-j-preserved : goal.loop-j-preserved
-loop-j-preserved c = sum_step _ (packet_at c.args.n.now.number c.args.n.now.lane c.args.n.now.bit) _ _ _ c.loop-j.invariant c.of_packet-sum.ensures
+loop-j-preserved c = sum_step _ (packet_at c.args.f.now) _ _ _ c.loop-j.invariant c.of_packet-sum.ensures

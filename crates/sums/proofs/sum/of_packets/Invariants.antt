@@ -4,4 +4,4 @@ use Rattle.sums.specs.Sums.{sum_from, each, packet_at}
 use Rattle.sums.proofs.sum.of_packets.Given as goal
 
 abbrev pub invariant-loop-j : goal.invariant-loop-j
-invariant-loop-j l = l.sum ≡ sum_from l.h (each (packet_at l.n.number l.n.lane l.n.bit) l.j)
+invariant-loop-j l = l.sum ≡ sum_from l.h (each (packet_at l.f) l.j)

@@ -10,9 +10,9 @@ pub returns : goal.returns
 unfolding of_record
 returns c =
     let n = c.args.n in
-    let links = each (link_at n.node n.live n.out n.local n.remote n.mark) (min n.links links_most) in
-    let turns = each (turns_at n.turns) (min n.nodes nodes_most) in
-    let packets = each (packet_at n.number n.lane n.bit) (min n.flying flight_most) in
+    let links = each (link_at n.plan n.arrows) (min n.plan.links links_most) in
+    let turns = each (turns_at n.arrows) (min n.plan.nodes nodes_most) in
+    let packets = each (packet_at n.flight) (min n.tally.flying flight_most) in
     let e = sum_then 1 (counts_in n) links _ _ c.of_counts-a.ensures c.of_links-b.ensures in
     let e' = sum_then 1 (counts_in n ++ links) turns _ _ e c.of_turns-c.ensures in
     sum_then 1 (counts_in n ++ links ++ turns) packets _ _ e' c.of_packets.ensures

@@ -8,4 +8,4 @@ unfolding each
 loop-v-init c = refl
 
 pub loop-v-preserved : goal.loop-v-preserved
-loop-v-preserved c = sum_step _ (turns_at c.args.n.now.turns) _ _ _ c.loop-v.invariant (cc)
+loop-v-preserved c = sum_step _ (turns_at c.args.a.now) _ _ _ c.loop-v.invariant (cc)
