@@ -183,3 +183,8 @@ module _ (p : Plan) (a : Arrows) (flight : List Packet) (x : ℕ) (r : Step) (h 
   pub took_long : {k : ℕ} → length (passed a.local (less x flight) r.handled r.went) ≡ k
       → length (passed a.local (without r.answer x flight) r.handled r.went) ≡ k
   took_long e = ap (λ left. length (passed a.local left r.handled r.went)) (without_oldest x flight h) ∙ e
+
+-- what a lane gives rests on the number of links and on the live ones alone
+pub first_same : (p q : Plan) (a b : Arrows) (x : ℕ) (t : Told) → p.links ≡ q.links → a.live ≡ b.live → first_on p a x t ≡ first_on q b x t
+unfolding first_on
+first_same p q a b x t e f = rw (e, f) refl

@@ -41,6 +41,7 @@ fn land(
     ensures flying { (flight : List Packet) → length flight ≡ tally.flying → length (passed arrows.new.local flight result.handled result.went) ≡ result.tally.flying }
     ensures accepted { result.answer ≡ 0 }
     ensures live { arrows.new.live ≡ arrows.old.live }
+    ensures remote { arrows.new.remote ≡ arrows.old.remote }
 {
     let destination = plan.destination;
     let flying = tally.flying;

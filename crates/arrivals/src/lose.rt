@@ -6,6 +6,8 @@ ghost use Rattle.model.specs.Formed.{well_formed};
 ghost use Rattle.model.specs.Lanes.{on_lane};
 ghost use Rattle.model.specs.Lose.{lose_on};
 ghost use Rattle.arrays.specs.declared.Oldest.{Oldest};
+ghost use Rattle.arrays.specs.declared.record.Plan.{Plan};
+ghost use Rattle.arrays.specs.declared.record.Arrows.{Arrows};
 ghost use Rattle.arrays.specs.View.{shown};
 ghost use Rattle.arrays.specs.Told.{oldest_in, without, passed};
 ghost use Rattle.departs.specs.Steps.{outcome_of, Fair};
@@ -19,7 +21,7 @@ pub fn lose_step(plan: &Plan, arrows: &Arrows, tally: Tally, x: usize, told: Tol
     requires links_fit { plan.now.links ≤ links_most }
     requires fair { Fair tally }
     requires flying { (o : Oldest) → told.oldest ≡ Some o → 0 < tally.flying }
-    ensures outcome { (flight : List Packet) → told ≡ oldest_in (on_lane x flight) → well_formed (shown plan.now arrows.now flight tally) ≡ true → outcome_of (shown plan.now arrows.now (passed arrows.now.local (without result.answer x flight) result.handled result.went) result.tally) result ≡ lose_on (shown plan.now arrows.now flight tally) x }
+    ensures outcome { (p : Plan) (a : Arrows) (flight : List Packet) → p.links ≡ plan.now.links → a.live ≡ arrows.now.live → told ≡ oldest_in (on_lane x flight) → well_formed (shown p a flight tally) ≡ true → outcome_of (shown p a (passed a.local (without result.answer x flight) result.handled result.went) result.tally) result ≡ lose_on (shown p a flight tally) x }
     ensures flying { (flight : List Packet) → told ≡ oldest_in (on_lane x flight) → length flight ≡ tally.flying → length (passed arrows.now.local (without result.answer x flight) result.handled result.went) ≡ result.tally.flying }
     ensures refused { (result.answer ≡ 0 → ⊥) → result.tally ≡ tally }
 {

@@ -3,7 +3,7 @@ use Prim.Native.Nat.{ℕ, ◌+◌, ◌<◌}
 use native.Mathlib.Omega.{arith}
 use mathlib.Core.Path.{◌≡◌, refl}
 use mathlib.Core.Bool.{false}
-use mathlib.Core.List.{[]}
+use mathlib.Core.List.{List, []}
 use lib.ListN.{length, get_or}
 use Rattle.std.specs.Prelude.{Some}
 use Rattle.model.specs.Limits.{ends_most}
@@ -13,7 +13,7 @@ use Rattle.arrays.specs.declared.asked.Asked.{Asked}
 use Rattle.arrays.specs.Told.{tells}
 use Rattle.arrays.proofs.Leaving.{absent, tells_send, tells_link, tells_lane}
 use Rattle.queues.specs.declared.queue.Queues.{Queues}
-use Rattle.queues.specs.Queue.{room, flown, Queued}
+use Rattle.queues.specs.Queue.{room, flown, InOrder}
 use Rattle.queues.proofs.Oldest.{queued_oldest}
 use Rattle.queued.specs.Asked.{Queueing}
 
@@ -34,7 +34,7 @@ module _ (q : Queues) (kind a : ℕ) where
     told_none e = told_absent 0 (tells_lane (flown q) kind a n m e)
 
     -- the first slot of the lane
-    pub told_first : Queued q → (i : ℕ) → a < ends_most → i ≡ get_or q.first a 0 → i < room
+    pub told_first : {last after : List ℕ} → InOrder q.lane q.first last after q.used → (i : ℕ) → a < ends_most → i ≡ get_or q.first a 0 → i < room
         → Queueing q kind a
         (record { told = record { oldest = Some (record { number = get_or q.number i 0; bit = get_or q.bit i false }); gone = 0 }; at = i })
     told_first s i l f h =

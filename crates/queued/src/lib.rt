@@ -1,12 +1,12 @@
 // The packets of a burst, in queues by lane.
 #![tactic(auto)]
 
-ghost use Rattle.std.specs.Prelude.{◌≡◌, ℕ, ◌≤◌, ◌<◌, length};
+ghost use Rattle.std.specs.Prelude.{◌≡◌, ℕ, List, ◌≤◌, ◌<◌, length};
 ghost use Rattle.model.specs.declared.Went.{Went};
 ghost use Rattle.model.specs.declared.Handled.{Handled};
 ghost use Rattle.model.specs.Limits.{ends_most, flight_most};
 ghost use Rattle.arrays.specs.Told.{left, passed, flies};
-ghost use Rattle.queues.specs.Queue.{room, flown, Queued};
+ghost use Rattle.queues.specs.Queue.{room, flown, Queued, InOrder, relaned};
 ghost use Rattle.queued.specs.Asked.{Queueing};
 
 use arrays::{Arrows, Asked, Oldest, Told, none};
@@ -17,7 +17,7 @@ use slots::make_room;
 // What the packets tell an event.
 pub fn ask(queues: &Queues, kind: u32, argument: usize) -> Asked
     requires { queues.now.used ≤ room }
-    ensures { Queued queues.now → Queueing queues.now kind argument result }
+    ensures { (last after : List ℕ) → InOrder queues.now.lane queues.now.first last after queues.now.used → Queueing queues.now kind argument result }
 {
     if kind == SEND {
         return none(0);
@@ -50,7 +50,7 @@ pub fn ask(queues: &Queues, kind: u32, argument: usize) -> Asked
 // An accepted event takes its packets out.
 fn drop_out(queues: &mut Queues, kind: u32, argument: usize, asked: Asked)
     requires { Queued queues.old × Queueing queues.old kind argument asked }
-    ensures { Queued queues.new × (flown queues.new ≡ left kind argument 0 (flown queues.old)) × (queues.new.used ≡ queues.old.used) }
+    ensures { Queued queues.new × (flown queues.new ≡ left kind argument 0 (flown queues.old)) × (queues.new.used ≡ queues.old.used) × (queues.new ≡ relaned queues.old queues.new.lane queues.new.first) }
 {
     if kind == SEND {
         return;

@@ -25,6 +25,7 @@ pub(crate) fn fail_step(
     requires fair { Fair tally }
     ensures outcome { (flight : List Packet) → gone ≡ length flight - length (off l flight) → well_formed (shown plan.now arrows.old flight tally) ≡ true → outcome_of (shown plan.now arrows.new (passed arrows.new.local (cleared result.answer l flight) result.handled result.went) result.tally) result ≡ fail_of (shown plan.now arrows.old flight tally) l }
     ensures flying { (flight : List Packet) → gone ≡ length flight - length (off l flight) → length flight ≡ tally.flying → length (passed arrows.new.local (cleared result.answer l flight) result.handled result.went) ≡ result.tally.flying }
+    ensures frames { (arrows.new.out ≡ arrows.old.out) × (arrows.new.local ≡ arrows.old.local) × (arrows.new.remote ≡ arrows.old.remote) × (arrows.new.turns ≡ arrows.old.turns) }
     ensures refused { (result.answer ≡ 0 → ⊥) → (result.tally ≡ tally) × (arrows.new ≡ arrows.old) }
 {
     if plan.links <= l {

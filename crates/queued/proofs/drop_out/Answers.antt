@@ -2,7 +2,7 @@
 use native.Mathlib.Omega.{arith}
 use mathlib.Core.Path.{refl, sym, ap, ◌∙◌}
 use Rattle.queues.specs.declared.queue.Queues.{Queues}
-use Rattle.queues.specs.Queue.{flown}
+use Rattle.queues.specs.Queue.{flown, relaned}
 use Rattle.queues.proofs.Oldest.{no_such_link}
 use Rattle.arrays.proofs.Leaving.{left_send, left_off, left_less, left_none}
 use Rattle.queued.proofs.drop_out.Goals as goal
@@ -10,7 +10,7 @@ use Rattle.queued.proofs.drop_out.Goals as goal
 pub returns-then-kind-eq-SEND : goal.returns-then-kind-eq-SEND
 returns-then-kind-eq-SEND c =
     let a = c.args in
-    (c.requires.0, left_send a.kind a.argument (flown a.queues.now) c.if-kind-eq-SEND.true, refl)
+    (c.requires.0, left_send a.kind a.argument (flown a.queues.now) c.if-kind-eq-SEND.true, refl, refl)
 
 pub returns-then-argument-lt-LINKS : goal.returns-then-argument-lt-LINKS
 returns-then-argument-lt-LINKS c =
@@ -19,6 +19,7 @@ returns-then-argument-lt-LINKS c =
       e.0 c.requires.0,
       e.1 ∙ left_off a.kind a.argument (flown a.queues.now) c.if-kind-eq-SEND.false c.if-kind-eq-FAIL.true,
       ap (λ (q : Queues). q.used) e.3,
+      e.3 ∙ sym (ap (λ (q : Queues). relaned a.queues.now q.lane q.first) e.3),
     )
 
 pub returns-else-argument-lt-LINKS : goal.returns-else-argument-lt-LINKS
@@ -28,6 +29,7 @@ returns-else-argument-lt-LINKS c =
       c.requires.0,
       sym (no_such_link q.number q.lane q.bit q.used a.argument c.requires.0.named (omega (arith, c.if-argument-lt-LINKS.false)))
           ∙ left_off a.kind a.argument (flown q) c.if-kind-eq-SEND.false c.if-kind-eq-FAIL.true,
+      refl,
       refl,
     )
 
@@ -42,6 +44,7 @@ returns-in-Some c =
       h.0,
       h.1 ∙ left_less a.kind a.argument (flown a.queues.now) c.if-kind-eq-SEND.false c.if-kind-eq-FAIL.false,
       ap (λ (q : Queues). q.used) e.1,
+      e.1 ∙ sym (ap (λ (q : Queues). relaned a.queues.now q.lane q.first) e.1),
     )
 
 pub returns-in-None : goal.returns-in-None
@@ -49,5 +52,6 @@ returns-in-None c =
     let a = c.args in (
       c.requires.0,
       left_none a.kind a.argument (flown a.queues.now) c.if-kind-eq-SEND.false c.if-kind-eq-FAIL.false a.asked.told c.requires.1.told c.in-None.is,
+      refl,
       refl,
     )

@@ -38,7 +38,7 @@ module _ (c : goal.After-ask-asked) where
       c.room_for_one.new.queues c.room_for_one.ensures.1 c.room_for_one.ensures.2
 
   told : c.ask-asked.result.told ≡ tells (flown c.room_for_one.new.queues) (get_or c.args.kinds.now c.loop-i.i 0) (get_or c.args.arguments.now c.loop-i.i 0)
-  told = (c.ask-asked.ensures going.queued).told
+  told = (c.ask-asked.ensures _ _ going.queued).told
 
   formed : well_formed (shown c.args.plan.now c.loop-i.arrows (flown c.room_for_one.new.queues) c.loop-i.t) ≡ true
   formed = still_formed c.args.plan.now start c.args.kinds.now c.args.arguments.now c.args.answers.now c.args.packets.now c.args.ways.now going c.requires.formed
@@ -63,7 +63,7 @@ carry-requires c =
       c.room_for_one.ensures.0,
       λ x e. call_lane _ _ _ (formed o) x (sym (ap (λ (z : Outcome). z.went) (c.step-r.ensures.outcome _ (told o) g.many (formed o))) ∙ e),
       g.queued,
-      c.ask-asked.ensures g.queued,
+      c.ask-asked.ensures _ _ g.queued,
     )
 
 pub note-requires : goal.note-requires

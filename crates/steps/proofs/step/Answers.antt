@@ -1,7 +1,7 @@
 -- By the kind, after the two refusals that need none. Assumes nothing.
 use Prim.Native.Nat.{ℕ}
 use native.Mathlib.Omega.{arith}
-use mathlib.Core.Path.{◌≡◌, sym, ap, ◌∙◌}
+use mathlib.Core.Path.{◌≡◌, refl, sym, ap, ◌∙◌}
 use mathlib.Core.List.{List}
 use lib.ListN.{length}
 use Rattle.model.specs.declared.Handled.TheVariants as handled
@@ -84,7 +84,7 @@ returns-in-3-clause-outcome c flight told many formed =
     let r = c.lose_step.result in
     let s = shown a.plan.now a.arrows.now flight a.tally in
     with_flight a.plan.now a.arrows.now r (flies_lose a.argument a.arrows.now.local flight r.answer r.handled r.went c.in-3.is)
-    (of_kind_lem s a.argument 3 c.in-3.is (c.lose_step.ensures.outcome flight (told_lose flight a.argument c.in-3.is told) formed ∙ call_lose s a.argument))
+    (of_kind_lem s a.argument 3 c.in-3.is (c.lose_step.ensures.outcome a.plan.now a.arrows.now flight refl refl (told_lose flight a.argument c.in-3.is told) formed ∙ call_lose s a.argument))
 
 pub returns-in-3-clause-flying : goal.returns-in-3-clause-flying
 returns-in-3-clause-flying c flight told many =
