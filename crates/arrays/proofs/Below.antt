@@ -1,5 +1,5 @@
 -- Laws of the tests below a bound, of a function's first values, and of the entries in use. Assumes nothing.
-use Prim.Native.Nat.{ℕ, zero, suc, ◌+◌, ◌-◌, ◌*◌, ◌≤◌, ◌<◌}
+use Prim.Native.Nat.{ℕ, zero, suc, ◌+◌, ◌*◌, ◌≤◌, ◌<◌}
 use native.Mathlib.Omega.{arith}
 use native.Mathlib.Numerals.{add-one}
 use mathlib.Core.Path.{◌≡◌, refl, sym, ap, ap₂, ◌∙◌, fun_ext}
@@ -31,12 +31,6 @@ pub not_ltb : (a b : ℕ) → leb a b ≡ not (ltb b a)
 not_ltb a b = elim (look (ltb b a)) [
   | inl e ↦ rw (e, lt-leb a b (ltb-true b a e))
   | inr e ↦ rw (e, le-leb a b (ltb-false b a e))
-]
-
-pub ltb_leb : (k n : ℕ) → 0 < k → ltb (k - 1) n ≡ leb k n
-ltb_leb k n h = elim (look (leb k n)) [
-  | inl e ↦ rw (e, lt-ltb (k - 1) n (omega (arith, leb-true k n e)))
-  | inr e ↦ rw (e, le-ltb (k - 1) n (omega (arith, leb-false k n e)))
 ]
 
 -- all pass exactly if none fails

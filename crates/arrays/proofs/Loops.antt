@@ -6,9 +6,9 @@ use mathlib.Core.Path.{◌≡◌, refl, sym, ap, ◌∙◌}
 use mathlib.Core.Logic.{inl, inr}
 use mathlib.Core.Bool.{Bool, true, false, not, cond, ◌&&◌, ◌||◌, or-false}
 use lib.Bits.{bit_and, bit_or, and_le_r, or_zero_l, or_add_and}
-use lib.Dec.{ltb, eqb}
+use lib.Dec.{eqb}
 use mir.Val.{bool_byte}
-use borrow.Author.Tests.{ne_eqb, lt-ltb}
+use borrow.Author.Tests.{ne_eqb}
 use Rattle.model.specs.Below.{any}
 use Rattle.model.proofs.Below.{look, or_right, any_here, any_found, any_false}
 use Rattle.arrays.proofs.Below.{not_or, not_not}
@@ -46,11 +46,6 @@ module _ (p : ℕ → Bool) where
       let q : i ≡ n = omega arith in
       rw (e, q) (not_not (any p n))
 
-  -- every number passes: whether there is one
-  pub any_always : (n : ℕ) → ((i : ℕ) → p i ≡ true) → ltb 0 n ≡ any p n
-  any_always zero h = any_none
-  any_always (suc n) h = lt-ltb 0 (suc n) (omega arith) ∙ sym (any_here p (suc n) 0 (omega arith) (h 0))
-
   -- none among some numbers more
   flat : (n l : ℕ) → ((i : ℕ) → l ≤ i → i < l + n → p i ≡ false) → any p l ≡ any p (l + n)
   unfolding any
@@ -87,12 +82,3 @@ module _ (p : ℕ → Bool) where
       go true false = refl
       go false true = refl
       go false false = refl
-
-  pub flags_end : (i n : ℕ) {u : ℕ} → u ≡ cond (any p i) 0 1 → i ≤ n → n ≤ i → eqb u 0 ≡ any p n
-  flags_end i n e l m =
-      let q : i ≡ n = omega arith in
-      rw (e, q) (go (any p n))
-    where
-      go : (a : Bool) → eqb (cond a 0 1) 0 ≡ a
-      go true = refl
-      go false = refl

@@ -1,5 +1,5 @@
 -- The arrays of the packets in flight.
-use Rattle.std.specs.Prelude.{ℕ, ◌+◌, ◌≡◌, Bool, List, length}
+use Rattle.std.specs.Prelude.{ℕ, ◌+◌, Bool, List}
 use Rattle.model.specs.Limits.{flight_most}
 use Rattle.model.specs.State.{Packet}
 use Rattle.model.specs.Below.{tab}
@@ -12,11 +12,6 @@ moves = 32
 
 abbrev pub slots : ℕ
 slots = flight_most + moves
-
-pub record Slots (number lane : List ℕ) (bit : List Bool) : Type 0 where
-  pub number_long : length number ≡ slots
-  pub lane_long : length lane ≡ slots
-  pub bit_long : length bit ≡ slots
 
 -- the packets in the first k slots
 abbrev pub packets : List ℕ → List ℕ → List Bool → ℕ → List Packet

@@ -3,7 +3,7 @@ use Rattle.std.specs.Prelude.{ℕ, ◌+◌, ◌-◌, ◌*◌, ◌<◌, Bool, fal
 use Rattle.std.specs.declared.option.Option.{Option}
 use Rattle.model.specs.Below.{first}
 use Rattle.model.specs.State.{Net, Ends, Packet, Counts, State}
-use Rattle.model.specs.Departure.{has_out, door}
+use Rattle.model.specs.Departure.{out_link, has_out, door}
 use Rattle.arrays.specs.declared.record.Plan.{Plan}
 use Rattle.arrays.specs.declared.record.Arrows.{Arrows}
 use Rattle.arrays.specs.declared.record.Tally.{Tally}
@@ -59,7 +59,10 @@ shown p a flight t =
 abbrev pub ends_seen : Plan → Arrows → State
 ends_seen p a = shown p a [] (record { flying = 0; events = 0; admitted = 0; delivered = 0; lost = 0; stranded = 0 })
 
--- the way out of node v: the end that it sends from, if there is one
+-- the lowest link that leads out of node v, and the way out, which is the end that it sends from: if there is one
+abbrev pub link_out_of : State → ℕ → Option ℕ
+link_out_of s v = cond (has_out s v) (Some (first (out_link s v) 0 s.net.links)) None
+
 abbrev pub way_out_of : State → ℕ → Option ℕ
 way_out_of s v = cond (has_out s v) (Some (door s v)) None
 

@@ -11,7 +11,7 @@ mod sizes;
 
 pub use asked::{Asked, none};
 pub use block::{BLOCK, block_has};
-pub use number::{other, wide};
+pub use number::other;
 pub use record::{Arrows, Flight, Plan, Tally};
 pub use sizes::sized;
 

@@ -1,14 +1,7 @@
-// Numbers of ends, lanes and nodes.
+// Numbers of ends and lanes.
 ghost use Rattle.std.specs.Prelude.{◌≡◌, ◌<◌};
 ghost use Rattle.model.specs.Limits.{ends_most};
 ghost use Rattle.model.specs.State.{opp};
-
-// A stored node or lane number as an index.
-pub fn wide(x: u16) -> usize
-    ensures { result ≡ x }
-{
-    x as usize
-}
 
 // The other end of the same link.
 pub fn other(x: usize) -> usize

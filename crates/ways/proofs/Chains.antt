@@ -4,7 +4,7 @@ use native.Mathlib.Omega.{arith}
 use mathlib.Core.Path.{◌≡◌, sym, ap, ◌∙◌}
 use mathlib.Core.Logic.{◌⊎◌, inl, inr}
 use mathlib.Core.Bool.{Bool, true, false, ◌&&◌, or-false}
-use mathlib.Core.List.{List, []}
+use mathlib.Core.List.{List}
 use lib.Dec.{eqb}
 use lib.ListN.{length, get_or, set, length-set}
 use lib.Seq.{get_or-set_same, get_or-set_other}
@@ -16,7 +16,7 @@ use Rattle.model.specs.Departure.{out_link, out_end}
 use Rattle.model.proofs.Below.{look, or_neither, or_right}
 use Rattle.arrays.specs.declared.record.Plan.{Plan}
 use Rattle.arrays.specs.declared.record.Arrows.{Arrows}
-use Rattle.arrays.specs.View.{ends_seen, link_at, end_at, link_from, way_out_of}
+use Rattle.arrays.specs.View.{ends_seen, link_at, end_at, link_from}
 use Rattle.ways.specs.declared.chain.Threads.{Threads}
 use Rattle.ways.specs.Chains.{Threaded, Chain}
 use Rattle.arrays.proofs.Searches.{first_start, first_yes, first_no, first_end, first_most, first_least, first_hit}

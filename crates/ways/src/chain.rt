@@ -1,7 +1,7 @@
 // Each node's links in a chain, threaded once for a burst.
 ghost use Rattle.std.specs.Prelude.{◌≡◌, ◌≤◌, ◌<◌, IfSome};
 ghost use Rattle.model.specs.Limits.{links_most, ends_most, nodes_most};
-ghost use Rattle.arrays.specs.View.{ends_seen, end_at, way_out_of, Named};
+ghost use Rattle.arrays.specs.View.{ends_seen, end_at, link_out_of, way_out_of, Named};
 ghost use Rattle.ways.specs.Chains.{Threaded, Chain};
 
 use crate::search::way_out;
@@ -49,12 +49,13 @@ fn end_at(plan: &Plan, v: u16, l: usize) -> usize
     if plan.node[x] == v { x } else { x + 1 }
 }
 
-// The end by which the first live link of the node with an Out end there leads out: along its chain.
+// The first live link of the node whose end there is Out, if there is one: along its chain.
 fn along(plan: &Plan, threads: &Threads, arrows: &Arrows, v: usize) -> Option<usize>
     requires fits { plan.now.links ≤ links_most }
     requires node { v < nodes_most }
     requires chain { Chain plan.now threads.now v }
-    ensures { result ≡ way_out_of (ends_seen plan.now arrows.now) v }
+    ensures is { result ≡ link_out_of (ends_seen plan.now arrows.now) v }
+    ensures within { IfSome result (λ l. l < plan.now.links) }
 {
     let mut l = usize::from(threads.heads[v]);
     loop {
@@ -63,7 +64,7 @@ fn along(plan: &Plan, threads: &Threads, arrows: &Arrows, v: usize) -> Option<us
         }
         let x = end_at(plan, v as u16, l);
         if arrows.live[l] & arrows.out[x] {
-            break Some(x);
+            break Some(l);
         }
         l = usize::from(threads.next[x]);
     }
@@ -76,8 +77,11 @@ pub fn way(plan: &Plan, threads: Option<&Threads>, arrows: &Arrows, v: usize) ->
     requires chain { IfSome threads (λ t. Chain plan.now t.now v) }
     ensures { result ≡ way_out_of (ends_seen plan.now arrows.now) v }
 {
-    match threads {
-        Some(threads) => along(plan, threads, arrows, v),
-        None => way_out(plan, arrows, v as u16),
+    let Some(threads) = threads else {
+        return way_out(plan, arrows, v as u16);
+    };
+    match along(plan, threads, arrows, v) {
+        Some(l) => Some(end_at(plan, v as u16, l)),
+        None => None,
     }
 }

@@ -1,9 +1,9 @@
 // Searches over the ends of a node.
-ghost use Rattle.std.specs.Prelude.{◌≡◌, false, ◌&&◌, ◌+◌, ◌*◌, ◌/◌, ◌≤◌, ◌<◌, eqb, get_or};
+ghost use Rattle.std.specs.Prelude.{◌≡◌, false, ◌&&◌, ◌+◌, ◌*◌, ◌/◌, ◌≤◌, ◌<◌, IfSome, eqb, get_or};
 ghost use Rattle.model.specs.Limits.{links_most, ends_most};
 ghost use Rattle.model.specs.Below.{any};
 ghost use Rattle.model.specs.Departure.{has_live};
-ghost use Rattle.arrays.specs.View.{ends_seen, way_out_of};
+ghost use Rattle.arrays.specs.View.{ends_seen, link_out_of, way_out_of};
 
 use arrays::{Arrows, BLOCK, Plan};
 
@@ -42,24 +42,34 @@ fn out_at(plan: &Plan, arrows: &Arrows, v: u16, x: usize) -> bool
     plan.node[x] == v && arrows.live[x / 2] & arrows.out[x]
 }
 
-// The end at which a packet leaves the node, if some link leads out: over all links.
-pub(crate) fn way_out(plan: &Plan, arrows: &Arrows, v: u16) -> Option<usize>
+// The first live link of the node whose end there is Out, if there is one: over all links.
+fn lowest(plan: &Plan, arrows: &Arrows, v: u16) -> Option<usize>
     requires { plan.now.links ≤ links_most }
-    ensures { result ≡ way_out_of (ends_seen plan.now arrows.now) v }
+    ensures is { result ≡ link_out_of (ends_seen plan.now arrows.now) v }
+    ensures within { IfSome result (λ l. l < plan.now.links) }
 {
     let mut l = passed(plan, arrows, v);
     loop {
         if plan.links <= l {
             break None;
         }
-        if out_at(plan, arrows, v, 2 * l) {
-            break Some(2 * l);
-        }
-        if out_at(plan, arrows, v, 2 * l + 1) {
-            break Some(2 * l + 1);
+        if out_at(plan, arrows, v, 2 * l) || out_at(plan, arrows, v, 2 * l + 1) {
+            break Some(l);
         }
         l += 1;
     }
+}
+
+// The end at which a packet leaves the node, if some link leads out.
+pub(crate) fn way_out(plan: &Plan, arrows: &Arrows, v: u16) -> Option<usize>
+    requires { plan.now.links ≤ links_most }
+    ensures { result ≡ way_out_of (ends_seen plan.now arrows.now) v }
+{
+    let l = lowest(plan, arrows, v)?;
+    if out_at(plan, arrows, v, 2 * l) {
+        return Some(2 * l);
+    }
+    Some(2 * l + 1)
 }
 
 // Whether the node has a live end.

@@ -1,8 +1,7 @@
 use native.Mathlib.Omega.{arith}
-use mathlib.Core.Path.{◌∙◌}
 use Rattle.arrays.specs.View.{ends_seen}
-use Rattle.ways.proofs.Chains.{walked_start, walked_next, walked_on, walked_found, walked_end, leads_by}
-use Rattle.ways.proofs.Doors.{leads, way_found, way_none}
+use Rattle.ways.proofs.Chains.{walked_start, walked_next, walked_on, walked_found, walked_end}
+use Rattle.ways.proofs.Doors.{link_found, link_none}
 use Rattle.ways.proofs.chain.along.Goals as goal
 
 pub loop-l-init : goal.loop-l-init
@@ -23,17 +22,15 @@ loop-l-preserved c =
     rw c.from-l-in-loop-l.ensures
     (walked_next a.plan.now a.arrows.now a.v a.threads.now c.requires.chain h.l h.invariant (omega arith) c.end_at-x.ensures.is c.if-arrows-l.false)
 
-pub returns-then-plan-l : goal.returns-then-plan-l
-returns-then-plan-l c =
+pub returns-then-plan-l-clause-is : goal.returns-then-plan-l-clause-is
+returns-then-plan-l-clause-is c =
     let a = c.args in
     let h = c.loop-l in
-    way_none (ends_seen a.plan.now a.arrows.now) a.v a.plan.now.links (walked_end a.plan.now a.arrows.now a.v h.l h.invariant c.if-plan-l.true) (omega arith)
+    link_none (ends_seen a.plan.now a.arrows.now) a.v a.plan.now.links (walked_end a.plan.now a.arrows.now a.v h.l h.invariant c.if-plan-l.true) (omega arith)
 
-pub returns-then-arrows-l : goal.returns-then-arrows-l
-returns-then-arrows-l c =
+pub returns-then-arrows-l-clause-is : goal.returns-then-arrows-l-clause-is
+returns-then-arrows-l-clause-is c =
     let a = c.args in
     let h = c.loop-l in
-    let s = ends_seen a.plan.now a.arrows.now in
-    let q = walked_found a.plan.now a.arrows.now a.v a.threads.now c.requires.chain h.l h.invariant (omega arith) c.end_at-x.ensures.is c.if-arrows-l.true in
-    way_found s a.v h.l q (omega arith)
-    (c.end_at-x.ensures.is ∙ leads_by a.plan.now a.arrows.now a.v a.threads.now c.requires.chain h.l (omega arith) (leads s a.v h.l q (omega arith)))
+    link_found (ends_seen a.plan.now a.arrows.now) a.v h.l
+    (walked_found a.plan.now a.arrows.now a.v a.threads.now c.requires.chain h.l h.invariant (omega arith) c.end_at-x.ensures.is c.if-arrows-l.true) (omega arith)

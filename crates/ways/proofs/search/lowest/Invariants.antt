@@ -4,7 +4,7 @@ use mathlib.Core.Path.{◌≡◌}
 use Rattle.model.specs.Below.{first}
 use Rattle.model.specs.Departure.{out_link}
 use Rattle.arrays.specs.View.{ends_seen}
-use Rattle.ways.proofs.search.way_out.Given as goal
+use Rattle.ways.proofs.search.lowest.Given as goal
 
 abbrev pub invariant-loop-l : goal.invariant-loop-l
 invariant-loop-l l = (l.l ≤ l.plan.links)
