@@ -7,62 +7,64 @@ use lib.ListN.{length, length-append}
 use lib.Seq.{sets, length-sets}
 use Rattle.model.specs.Limits.{text_most}
 use Rattle.groups.proofs.Stores.{sets_append}
+use Rattle.letters.specs.declared.page.Page.{Page}
 use Rattle.letters.specs.Puts.{Room, Put}
 
 -- `rest` is left of `whole`
-pub record Pending (l : List ℕ) (at : ℕ) (whole out : List ℕ) (next : ℕ) (rest : List ℕ) : Type 0 where
-  pub size : length out ≡ text_most
-  pub fits : next + length rest ≤ text_most
-  pub ends : next + length rest ≡ at + length whole
-  pub stores : sets out next rest ≡ sets l at whole
+pub record Pending (p : Page) (whole : List ℕ) (q : Page) (rest : List ℕ) : Type 0 where
+  pub same : q.out.ghost_name ≡ p.out.ghost_name
+  pub size : length q.out.now ≡ text_most
+  pub fits : q.at + length rest ≤ text_most
+  pub ends : q.at + length rest ≡ p.at + length whole
+  pub stores : sets q.out.now q.at rest ≡ sets p.out.now p.at whole
 
-module _ {l : List ℕ} {at : ℕ} {whole : List ℕ} where
-  pub begin : Room l at whole → Pending l at whole l at whole
-  begin r = record { size = r.size; fits = r.fits; ends = refl; stores = refl }
+module _ {p : Page} {whole : List ℕ} where
+  pub begin : Room p whole → Pending p whole p whole
+  begin r = record { same = refl; size = r.size; fits = r.fits; ends = refl; stores = refl }
 
-  module _ {out : List ℕ} {next : ℕ} where
+  module _ {q : Page} where
     -- the rest in other words
-    pub say : {rest other : List ℕ} → rest ≡ other → Pending l at whole out next rest → Pending l at whole out next other
-    say e p = record {
-      size = p.size;
-      fits = omega (arith, p.fits, ap length e);
-      ends = omega (arith, p.ends, ap length e);
-      stores = ap (sets out next) (sym e) ∙ p.stores;
+    pub say : {rest other : List ℕ} → rest ≡ other → Pending p whole q rest → Pending p whole q other
+    say e d = record {
+      same = d.same;
+      size = d.size;
+      fits = omega (arith, d.fits, ap length e);
+      ends = omega (arith, d.ends, ap length e);
+      stores = ap (sets q.out.now q.at) (sym e) ∙ d.stores;
     }
 
     -- room for all that is left, and for its first part
-    pub room_all : {rest : List ℕ} → Pending l at whole out next rest → Room out next rest
-    room_all p = record { size = p.size; fits = p.fits }
+    pub room_all : {rest : List ℕ} → Pending p whole q rest → Room q rest
+    room_all d = record { size = d.size; fits = d.fits }
 
-    pub room : (a more : List ℕ) → Pending l at whole out next (a ++ more) → Room out next a
-    room a more p = record { size = p.size; fits = omega (arith, p.fits, length-append a more) }
+    pub room : (a more : List ℕ) → Pending p whole q (a ++ more) → Room q a
+    room a more d = record { size = d.size; fits = omega (arith, d.fits, length-append a more) }
 
-    pub step : (a more : List ℕ) {r : ℕ} {o : List ℕ} → Pending l at whole out next (a ++ more) → Put out next a r o
-        → Pending l at whole o r more
-    step a more p q =
+    pub step : (a more : List ℕ) {r : Page} → Pending p whole q (a ++ more) → Put q a r → Pending p whole r more
+    step a more d e =
         record {
-          size = ap length q.stores ∙ length-sets out next a ∙ p.size;
-          fits = omega (arith, p.fits, q.next, length-append a more);
-          ends = omega (arith, p.ends, q.next, length-append a more);
-          stores = rw (q.stores, q.next) (sets_append a more out next) ∙ p.stores;
+          same = e.same ∙ d.same;
+          size = ap length e.stores ∙ length-sets q.out.now q.at a ∙ d.size;
+          fits = omega (arith, d.fits, e.next, length-append a more);
+          ends = omega (arith, d.ends, e.next, length-append a more);
+          stores = rw (e.stores, e.next) (sets_append a more q.out.now q.at) ∙ d.stores;
         }
 
     -- the last part
-    pub last : {rest : List ℕ} {r : ℕ} {o : List ℕ} → Pending l at whole out next rest → Put out next rest r o → Put l at whole r o
-    last p q = record { next = q.next ∙ p.ends; stores = q.stores ∙ p.stores }
+    pub last : {rest : List ℕ} {r : Page} → Pending p whole q rest → Put q rest r → Put p whole r
+    last d e = record { same = e.same ∙ d.same; next = e.next ∙ d.ends; stores = e.stores ∙ d.stores }
 
-    pub finish : {rest : List ℕ} → rest ≡ [] → Pending l at whole out next rest → Put l at whole next out
-    finish e p =
-        record { next = omega (arith, p.ends, ap length e); stores = ap (sets out next) (sym e) ∙ p.stores }
+    pub finish : {rest : List ℕ} → rest ≡ [] → Pending p whole q rest → Put p whole q
+    finish e d =
+        record { same = d.same; next = omega (arith, d.ends, ap length e); stores = ap (sets q.out.now q.at) (sym e) ∙ d.stores }
 
     -- a part that is one byte
-    pub room_byte : {a b : ℕ} {more : List ℕ} → b ≡ a → Pending l at whole out next (a ∷ more) → Room out next (b ∷ [])
-    room_byte {a} {b} {more} e p = record { size = p.size; fits = omega (arith, p.fits) }
+    pub room_byte : {a b : ℕ} {more : List ℕ} → b ≡ a → Pending p whole q (a ∷ more) → Room q (b ∷ [])
+    room_byte {a} {b} {more} e d = record { size = d.size; fits = omega (arith, d.fits) }
 
-    pub step_byte : {a b : ℕ} {more : List ℕ} {r : ℕ} {o : List ℕ} → b ≡ a → Pending l at whole out next (a ∷ more)
-        → Put out next (b ∷ []) r o → Pending l at whole o r more
-    step_byte {a} {b} {more} e p q = step (b ∷ []) more (say (ap (λ (d : ℕ). d ∷ more) (sym e)) p) q
+    pub step_byte : {a b : ℕ} {more : List ℕ} {r : Page} → b ≡ a → Pending p whole q (a ∷ more) → Put q (b ∷ []) r
+        → Pending p whole r more
+    step_byte {a} {b} {more} e d o = step (b ∷ []) more (say (ap (λ (d : ℕ). d ∷ more) (sym e)) d) o
 
-    pub last_byte : {a b : ℕ} {r : ℕ} {o : List ℕ} → b ≡ a → Pending l at whole out next (a ∷ []) → Put out next (b ∷ []) r o
-        → Put l at whole r o
-    last_byte e p q = last (say (ap (λ (d : ℕ). d ∷ []) (sym e)) p) q
+    pub last_byte : {a b : ℕ} {r : Page} → b ≡ a → Pending p whole q (a ∷ []) → Put q (b ∷ []) r → Put p whole r
+    last_byte e d o = last (say (ap (λ (d : ℕ). d ∷ []) (sym e)) d) o

@@ -1,13 +1,11 @@
-// Bytes, words and decimal numbers, written at a position of a lent part that has room for them.
+// A page of a lent part that has room for what is written on it: bytes, words and decimal numbers.
 // Public for `lines` and `replay` alone, so these functions may require that room: docs/EXCEPTIONS.md.
 #![tactic(auto)]
 
 mod digits;
-mod numbers;
+mod page;
 mod table;
-mod words;
 
-pub use digits::{digit, number};
-pub use numbers::{any, million, small};
-pub use table::{TABLE, THOUSAND, rows};
-pub use words::{bytes, word};
+pub use digits::digit;
+pub use page::Page;
+pub use table::{THOUSAND, Table};

@@ -11,7 +11,13 @@ pub(crate) const WIDE: usize = 8;
 
 pub(crate) const HALF: usize = 4;
 
-pub const TABLE: usize = WIDE * THOUSAND;
+const TABLE: usize = WIDE * THOUSAND;
+
+#[derive(Drop)]
+pub struct Table {
+    pub(crate) rows: [u8; TABLE],
+    ghost right: { rows ≡ digit_rows },
+}
 
 // What stands between the digits and their count is never left in a text.
 fn front(n: usize) -> [u8; HALF]
@@ -34,21 +40,23 @@ fn back(n: usize) -> [u8; HALF]
     [digit(n / 100), digit(n / 10), digit(n), b' ']
 }
 
-fn row(table: &mut [u8; TABLE], n: usize)
-    requires { (n < thousand) × (length table.old ≡ table_size) }
-    ensures { table.new ≡ sets table.old (wide * n) (row_of n) }
+fn row(rows: &mut [u8; TABLE], n: usize)
+    requires { (n < thousand) × (length rows.old ≡ table_size) }
+    ensures { rows.new ≡ sets rows.old (wide * n) (row_of n) }
 {
     let at = WIDE * n;
-    table[at..at + HALF].copy_from_slice(&front(n));
-    table[at + HALF..at + WIDE].copy_from_slice(&back(n));
+    rows[at..at + HALF].copy_from_slice(&front(n));
+    rows[at + HALF..at + WIDE].copy_from_slice(&back(n));
 }
 
-pub fn rows() -> [u8; TABLE]
-    ensures { result ≡ digit_rows }
-{
-    let mut table = [0u8; TABLE];
-    for n in 0..THOUSAND {
-        row(&mut table, n);
+impl Table {
+    pub fn new() -> Table
+        ensures { result.rows ≡ digit_rows }
+    {
+        let mut rows = [0u8; TABLE];
+        for n in 0..THOUSAND {
+            row(&mut rows, n);
+        }
+        Table { rows }
     }
-    table
 }

@@ -8,6 +8,7 @@ use lib.ListN.{get_or}
 use Rattle.model.specs.Below.{tab}
 use Rattle.model.specs.Text.{ascii, digits, spaced, line}
 use Rattle.arrays.proofs.Below.{tab_same}
+use Rattle.letters.specs.declared.page.Page.{Page}
 use Rattle.letters.specs.Puts.{Room, Put}
 use Rattle.lines.specs.Lines.{row}
 use Rattle.letters.proofs.Pending.{Pending, begin, say, room, step, room_all, room_byte, last_byte}
@@ -29,25 +30,25 @@ pub four_parts : (a b c d : List ℕ) → line a (b ∷ c ∷ d ∷ []) ≡ (a +
 unfolding line spaced
 four_parts a b c d = simp append_assoc
 
-module _ {l : List ℕ} {at : ℕ} {whole out : List ℕ} {next : ℕ} where
+module _ {l out : Page} {whole : List ℕ} where
   module _ (w : List ℕ) (ws : List (List ℕ)) where
-    pub room_first : Pending l at whole out next (line w ws) → Room out next w
+    pub room_first : Pending l whole out (line w ws) → Room out w
     room_first p = room w (spaced ws) (say (line_first w ws) p)
 
-    pub step_first : {r : ℕ} {o : List ℕ} → Pending l at whole out next (line w ws) → Put out next w r o → Pending l at whole o r (spaced ws)
+    pub step_first : {r : Page} → Pending l whole out (line w ws) → Put out w r → Pending l whole r (spaced ws)
     step_first p q = step w (spaced ws) (say (line_first w ws) p) q
 
-    pub room_field : Pending l at whole out next (spaced (w ∷ ws)) → Room out next (ascii " " ++ w)
+    pub room_field : Pending l whole out (spaced (w ∷ ws)) → Room out (ascii " " ++ w)
     room_field p = room (ascii " " ++ w) (spaced ws) (say (spaced_first w ws) p)
 
-    pub step_field : {r : ℕ} {o : List ℕ} → Pending l at whole out next (spaced (w ∷ ws)) → Put out next (ascii " " ++ w) r o
-        → Pending l at whole o r (spaced ws)
+    pub step_field : {r : Page} → Pending l whole out (spaced (w ∷ ws)) → Put out (ascii " " ++ w) r
+        → Pending l whole r (spaced ws)
     step_field p q = step (ascii " " ++ w) (spaced ws) (say (spaced_first w ws) p) q
 
-  pub room_end : Pending l at whole out next (spaced []) → Room out next (10 ∷ [])
+  pub room_end : Pending l whole out (spaced []) → Room out (10 ∷ [])
   room_end p = room_byte refl (say spaced_end p)
 
-  pub last_end : {r : ℕ} {o : List ℕ} → Pending l at whole out next (spaced []) → Put out next (10 ∷ []) r o → Put l at whole r o
+  pub last_end : {r : Page} → Pending l whole out (spaced []) → Put out (10 ∷ []) r → Put l whole r
   last_end p q = last_byte refl (say spaced_end p) q
 
 -- ---- a function's values from one on
@@ -86,39 +87,39 @@ row_is : (w list : List ℕ) (k : ℕ) → row w list k ≡ line w (from (number
 unfolding row
 row_is w list k = ap (line w) (from_start (number_at list) k)
 
-module _ {l : List ℕ} {at : ℕ} {whole out : List ℕ} {next : ℕ} (w list : List ℕ) (k : ℕ) where
-  pub room_row : Pending l at whole out next (row w list k) → Room out next w
+module _ {l out : Page} {whole : List ℕ} (w list : List ℕ) (k : ℕ) where
+  pub room_row : Pending l whole out (row w list k) → Room out w
   room_row p = room_first w (from (number_at list) 0 k) (say (row_is w list k) p)
 
-  pub step_row : {r : ℕ} {o : List ℕ} → Pending l at whole out next (row w list k) → Put out next w r o
-      → Pending l at whole o r (fields list 0 k)
+  pub step_row : {r : Page} → Pending l whole out (row w list k) → Put out w r
+      → Pending l whole r (fields list 0 k)
   unfolding fields
   step_row p q =
       let e : k ≡ k - 0 = omega arith in
       say (ap (λ m. spaced (from (number_at list) 0 m)) e) (step_first w (from (number_at list) 0 k) (say (row_is w list k) p) q)
 
-module _ {l : List ℕ} {at : ℕ} {whole out : List ℕ} {next : ℕ} (list : List ℕ) (i k : ℕ) (p : Pending l at whole out next (fields list i k)) where
-  more : i < k → Pending l at whole out next (spaced (number_at list i ∷ from (number_at list) (i + 1) (k - (i + 1))))
+module _ {l out : Page} {whole : List ℕ} (list : List ℕ) (i k : ℕ) (p : Pending l whole out (fields list i k)) where
+  more : i < k → Pending l whole out (spaced (number_at list i ∷ from (number_at list) (i + 1) (k - (i + 1))))
   unfolding fields
   more h = say (ap spaced (from_more (number_at list) i k h)) p
 
-  pub room_number : {n : ℕ} → i < k → n ≡ get_or list i 0 → Room out next (ascii " " ++ digits n)
+  pub room_number : {n : ℕ} → i < k → n ≡ get_or list i 0 → Room out (ascii " " ++ digits n)
   room_number h e =
       room_all
       (say (ap (λ m. ascii " " ++ digits m) (sym e)) (begin (room_field (number_at list i) (from (number_at list) (i + 1) (k - (i + 1))) (more h))))
 
-  pub step_number : {n r : ℕ} {o : List ℕ} → i < k → n ≡ get_or list i 0 → Put out next (ascii " " ++ digits n) r o
-      → Pending l at whole o r (fields list (i + 1) k)
+  pub step_number : {n : ℕ} {r : Page} → i < k → n ≡ get_or list i 0 → Put out (ascii " " ++ digits n) r
+      → Pending l whole r (fields list (i + 1) k)
   unfolding fields
-  step_number {r = r} {o = o} h e q =
-      step_field (number_at list i) (from (number_at list) (i + 1) (k - (i + 1))) (more h) (subst (λ m. Put out next (ascii " " ++ digits m) r o) e q)
+  step_number {r = r} h e q =
+      step_field (number_at list i) (from (number_at list) (i + 1) (k - (i + 1))) (more h) (subst (λ m. Put out (ascii " " ++ digits m) r) e q)
 
-  over : k ≤ i → Pending l at whole out next (spaced [])
+  over : k ≤ i → Pending l whole out (spaced [])
   unfolding fields
   over h = say (ap spaced (from_none (number_at list) i k h)) p
 
-  pub room_over : k ≤ i → Room out next (10 ∷ [])
+  pub room_over : k ≤ i → Room out (10 ∷ [])
   room_over h = room_end (over h)
 
-  pub last_over : {r : ℕ} {o : List ℕ} → k ≤ i → Put out next (10 ∷ []) r o → Put l at whole r o
+  pub last_over : {r : Page} → k ≤ i → Put out (10 ∷ []) r → Put l whole r
   last_over h q = last_end (over h) q

@@ -27,6 +27,7 @@ use Rattle.model.proofs.Named.{few_lanes, named}
 use Rattle.steps.specs.Call.{made, call}
 use Rattle.notes.specs.Bursts.{calls, call_at, packet_code, way_code, least, Lists}
 use Rattle.notes.proofs.Bursts.{filled_at, calls_keep}
+use Rattle.letters.specs.declared.page.Page.{Page}
 use Rattle.letters.specs.Puts.{Room, Put}
 use Rattle.letters.specs.Digits.{joined}
 use Rattle.lines.specs.Codes.{packet_word, way_word, code_line}
@@ -139,16 +140,16 @@ module _ (answers packets ways : List ℕ) where
       ap₂ (λ x y. code_lines answers packets ways x 0 y) p q
 
 -- ---- a line written, the others left
-module _ (answers packets ways : List ℕ) (thousands rest i n : ℕ) (h : i < n) {l : List ℕ} {at : ℕ} {whole out : List ℕ} {next : ℕ}
-    (p : Pending l at whole out next (code_lines answers packets ways (joined thousands rest + i) i (n - i))) where
+module _ (answers packets ways : List ℕ) (thousands rest i n : ℕ) (h : i < n) {l out : Page} {whole : List ℕ}
+    (p : Pending l whole out (code_lines answers packets ways (joined thousands rest + i) i (n - i))) where
   abbrev this : List ℕ
   this = code_line (joined thousands (rest + i)) (get_or answers i 0) (get_or packets i 0) (get_or ways i 0)
 
   abbrev others : List ℕ
   others = code_lines answers packets ways (joined thousands rest + (i + 1)) (i + 1) (n - (i + 1))
 
-  pub room_line : Room out next this
+  pub room_line : Room out this
   room_line = room this others (say (lines_more answers packets ways thousands rest i n h) p)
 
-  pub step_line : {r : ℕ} {o : List ℕ} → Put out next this r o → Pending l at whole o r others
+  pub step_line : {r : Page} → Put out this r → Pending l whole r others
   step_line q = step this others (say (lines_more answers packets ways thousands rest i n h) p) q

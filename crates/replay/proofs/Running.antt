@@ -17,6 +17,7 @@ use Rattle.network.specs.declared.record.Network.{Network}
 use Rattle.network.specs.View.{view}
 use Rattle.notes.specs.Bursts.{calls}
 use Rattle.notes.proofs.Bursts.{calls_keep}
+use Rattle.letters.specs.declared.page.Page.{Page}
 use Rattle.replay.specs.declared.play.Played.{Played}
 use Rattle.letters.specs.Puts.{Room}
 use Rattle.lines.specs.Lines.{ending_of}
@@ -29,15 +30,15 @@ use Rattle.replay.proofs.Chunks.{stand_take}
 use Rattle.replay.proofs.Tails.{tail, tail_whole, tail_end, tail_spoilt, tail_chunk}
 
 -- at a position of the file, with a record and an ordinal: what is left of the text
-pub record Running (file l whole out : List ℕ) (n : Network) (at ordinal next : ℕ) : Type 0 where
+pub record Running (file : List ℕ) (l : Page) (whole : List ℕ) (out : Page) (n : Network) (at ordinal : ℕ) : Type 0 where
   pub formed : well_formed (view n) ≡ true
   pub inside : at ≤ length file
   pub short : length file ≤ file_most
   pub counted : ordinal ≤ at
-  pub pending : Pending l 0 whole out next (tail ordinal (view n) (read_events file at))
+  pub pending : Pending l whole out (tail ordinal (view n) (read_events file at))
 
-pub starts : (file out : List ℕ) (n : Network) (at : ℕ) → RunPre file at n out → Running file out (text_of file at n) out n at 1 0
-starts file out n at p =
+pub starts : (file : List ℕ) (page : Page) (n : Network) (at : ℕ) → RunPre file at n page → Running file page (text_of file at n) page n at 1
+starts file page n at p =
     record {
       formed = p.formed;
       inside = p.inside;
@@ -46,9 +47,9 @@ starts file out n at p =
       pending = say (tail_whole (view n) (read_events file at)) (begin p.room);
     }
 
-pub recount : {file l whole out : List ℕ} {n : Network} {at o p next : ℕ} → o ≡ p → Running file l whole out n at o next
-    → Running file l whole out n at p next
-recount {file} {l} {whole} {out} {n} {at} {next = next} = subst (λ o. Running file l whole out n at o next)
+pub recount : {file : List ℕ} {l : Page} {whole : List ℕ} {out : Page} {n : Network} {at o p : ℕ} → o ≡ p → Running file l whole out n at o
+    → Running file l whole out n at p
+recount {file} {l} {whole} {out} {n} {at} = subst (λ o. Running file l whole out n at o)
 
 -- the lists that a chunk lends
 module _ {file : List ℕ} {at : ℕ} {kinds arguments : List ℕ} {most count at' : ℕ} (g : Gathers file at most kinds arguments count at') where
@@ -64,12 +65,12 @@ module _ {file : List ℕ} {at : ℕ} {kinds arguments : List ℕ} {most count a
   pub as_many : length (take count arguments) ≡ length (take count kinds)
   as_many = sym arguments_lent ∙ kinds_lent
 
-module _ {file l whole out : List ℕ} {n : Network} {at ordinal next : ℕ} (run : Running file l whole out n at ordinal next) where
-  pub ends : read_events file at ≡ record { events = []; spoilt = none } → Pending l 0 whole out next (ending_of (view n))
+module _ {file : List ℕ} {l : Page} {whole : List ℕ} {out : Page} {n : Network} {at ordinal : ℕ} (run : Running file l whole out n at ordinal) where
+  pub ends : read_events file at ≡ record { events = []; spoilt = none } → Pending l whole out (ending_of (view n))
   ends e = say (tail_end ordinal (view n) e) run.pending
 
   pub spoils : (place : ℕ) → read_events file at ≡ record { events = []; spoilt = some place }
-      → Pending l 0 whole out next (spoilt_line (some place) ++ ending_of (view n))
+      → Pending l whole out (spoilt_line (some place) ++ ending_of (view n))
   spoils place e = say (tail_spoilt ordinal (view n) place e) run.pending
 
   pub few_nodes : n.plan.nodes ≤ nodes_most
@@ -94,11 +95,11 @@ module _ {file l whole out : List ℕ} {n : Network} {at ordinal next : ℕ} (ru
         ∙ ap (λ m. call_lines (view n) ks gs ordinal 0 (length es) ++ tail (ordinal + m) (calls (view n) ks gs (length es)) (read_events file at')) g.many
         ∙ ap (λ m. call_lines (view n) ks gs ordinal 0 m ++ tail (ordinal + count) (calls (view n) ks gs m) (read_events file at')) long
 
-    pub chunk_room : Room out next (call_lines (view n) (take count kinds) (take count arguments) ordinal 0 (length (take count kinds)))
+    pub chunk_room : Room out (call_lines (view n) (take count kinds) (take count arguments) ordinal 0 (length (take count kinds)))
     chunk_room = room _ _ (say chunk_first run.pending)
 
-    pub goes_on : {r : Played} {out' : List ℕ} → PlayPost n (take count kinds) (take count arguments) ordinal out next out' r
-        → Running file l whole out' r.network at' (ordinal + count) r.next
+    pub goes_on : {r : Played} → PlayPost n (take count kinds) (take count arguments) ordinal out r
+        → Running file l whole r.page r.network at' (ordinal + count)
     goes_on p =
         record {
           formed = ap well_formed p.state ∙ calls_keep (view n) (take count kinds) (take count arguments) (length (take count kinds)) ∙ run.formed;

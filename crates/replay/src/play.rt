@@ -1,43 +1,41 @@
 // A chunk's events, run by one burst and written line by line.
 ghost use Rattle.std.specs.Prelude.{◌≡◌, ◌+◌, ◌≤◌, ◌<◌};
 ghost use Rattle.letters.specs.Puts.{Room, Put};
-ghost use Rattle.letters.specs.Digits.{thousand, joined, digit_rows};
+ghost use Rattle.letters.specs.Digits.{thousand, joined};
 ghost use Rattle.replay.specs.ChunkLines.{code_lines};
 ghost use Rattle.replay.specs.Plays.{PlayPre, PlayPost};
 
 use crate::chunk::CHUNK;
 use bursts::burst;
-use letters::TABLE;
+use letters::{Page, Table};
 use lines::event;
 use network::Network;
 
-// The record after a chunk, and the position after its lines.
-#[derive(Clone, Copy)]
-pub(crate) struct Played {
+// The record after a chunk, and the page with its lines.
+#[derive(Drop)]
+pub(crate) struct Played<'a> {
     pub network: Network,
-    pub next: usize,
+    pub page: Page<'a>,
 }
 
 // A line for each event of a chunk, by what the burst gave: their ordinals have the same thousands.
 fn lines<'a>(
-    out: &mut [u8; model::TEXT_MOST],
-    at: usize,
-    table: &'a [u8; TABLE],
+    page: Page<'a>,
+    table: &Table,
     thousands: usize,
     rest: usize,
-    answers: &'a [u32; CHUNK],
-    packets: &'a [u32; CHUNK],
-    ways: &'a [usize; CHUNK],
+    answers: &[u32; CHUNK],
+    packets: &[u32; CHUNK],
+    ways: &[usize; CHUNK],
     count: usize,
-) -> usize
-    requires { Room out.old at (code_lines answers.now packets.now ways.now (joined thousands rest) 0 count) × (table.now ≡ digit_rows) × (thousands < thousand) × (rest + count ≤ thousand) }
-    ensures { Put out.old at (code_lines answers.now packets.now ways.now (joined thousands rest) 0 count) result out.new }
+) -> Page<'a>
+    requires { Room page (code_lines answers.now packets.now ways.now (joined thousands rest) 0 count) × (thousands < thousand) × (rest + count ≤ thousand) }
+    ensures { Put page.entry (code_lines answers.now packets.now ways.now (joined thousands rest) 0 count) result }
 {
-    let mut next = at;
+    let mut page = page;
     for i in 0..count {
-        next = event(
-            out,
-            next,
+        page = event(
+            page,
             table,
             thousands,
             rest + i,
@@ -46,22 +44,21 @@ fn lines<'a>(
             ways[i],
         );
     }
-    next
+    page
 }
 
 // The burst, then its lines: the record is checked once for the whole chunk.
 pub(crate) fn play<'a>(
     network: Network,
-    table: &'a [u8; TABLE],
-    kinds: &'a [u32],
-    arguments: &'a [u32],
+    page: Page<'a>,
+    table: &Table,
+    kinds: &[u32],
+    arguments: &[u32],
     thousands: usize,
     rest: usize,
-    out: &mut [u8; model::TEXT_MOST],
-    at: usize,
-) -> Played
-    requires { PlayPre network table.now kinds.now arguments.now thousands rest out.old at }
-    ensures { PlayPost network kinds.now arguments.now (joined thousands rest) out.old at out.new result }
+) -> Played<'a>
+    requires { PlayPre network kinds.now arguments.now thousands rest page }
+    ensures { PlayPost network kinds.now arguments.now (joined thousands rest) page.entry result }
 {
     let mut answers = [0u32; CHUNK];
     let mut packets = [0u32; CHUNK];
@@ -74,9 +71,8 @@ pub(crate) fn play<'a>(
         &mut packets,
         &mut ways,
     );
-    let next = lines(
-        out,
-        at,
+    let page = lines(
+        page,
         table,
         thousands,
         rest,
@@ -87,6 +83,6 @@ pub(crate) fn play<'a>(
     );
     Played {
         network: burst.network,
-        next,
+        page,
     }
 }

@@ -4,9 +4,9 @@ use Rattle.letters.proofs.Pending.{begin, say, room, step, room_all, last}
 use Rattle.lines.proofs.LastLines.{ending_rows}
 use Rattle.lines.proofs.ending.Goals as goal
 
-pub row-next-requires : goal.row-next-requires
+pub row-page-requires : goal.row-page-requires
 unfolding ascii
-row-next-requires c =
+row-page-requires c =
     let rows = ending_rows c.args.n in
     room _ _ (say rows (begin c.requires.0))
 
@@ -14,10 +14,10 @@ pub turns-requires : goal.turns-requires
 unfolding ascii
 turns-requires c =
     let rows = ending_rows c.args.n in
-    (room_all (step _ _ (say rows (begin c.requires.0)) c.row-next.ensures), c.requires.1)
+    (room_all (step _ _ (say rows (begin c.requires.0)) c.row-page.ensures), c.requires.1)
 
 pub returns : goal.returns
 unfolding ascii
 returns c =
     let rows = ending_rows c.args.n in
-    last (step _ _ (say rows (begin c.requires.0)) c.row-next.ensures) c.turns.ensures
+    last (step _ _ (say rows (begin c.requires.0)) c.row-page.ensures) c.turns.ensures

@@ -8,9 +8,9 @@ use Rattle.letters.proofs.Pending.{begin, say, room, step, room_all, last}
 use Rattle.lines.proofs.LastLines.{spoilt_row}
 use Rattle.lines.proofs.spoilt.Goals as goal
 
-pub row-next-requires : goal.row-next-requires
+pub row-page-requires : goal.row-page-requires
 unfolding ascii
-row-next-requires c =
+row-page-requires c =
     let rows = ap (λ l. l ++ ending_of (view c.args.n)) (spoilt_row c.args.place) in
     room _ _ (say rows (begin c.requires.0))
 
@@ -18,10 +18,10 @@ pub ending-requires : goal.ending-requires
 unfolding ascii
 ending-requires c =
     let rows = ap (λ l. l ++ ending_of (view c.args.n)) (spoilt_row c.args.place) in
-    (room_all (step _ _ (say rows (begin c.requires.0)) c.row-next.ensures), c.requires.1)
+    (room_all (step _ _ (say rows (begin c.requires.0)) c.row-page.ensures), c.requires.1)
 
 pub returns : goal.returns
 unfolding ascii
 returns c =
     let rows = ap (λ l. l ++ ending_of (view c.args.n)) (spoilt_row c.args.place) in
-    last (step _ _ (say rows (begin c.requires.0)) c.row-next.ensures) c.ending.ensures
+    last (step _ _ (say rows (begin c.requires.0)) c.row-page.ensures) c.ending.ensures

@@ -4,4 +4,4 @@ use Rattle.lines.proofs.LineParts.{fields}
 use Rattle.lines.proofs.turns.Given as goal
 
 abbrev pub invariant-loop-n : goal.invariant-loop-n
-invariant-loop-n l = Pending l.initial.out l.initial.next (fields l.turns 0 l.nodes) l.out l.next (fields l.turns l.n-index l.nodes)
+invariant-loop-n l = Pending l.initial.page (fields l.turns 0 l.nodes) l.page (fields l.turns l.n-index l.nodes)

@@ -5,5 +5,5 @@ use Rattle.letters.proofs.table.row.Goals as goal
 
 pub returns : goal.returns
 returns c =
-    row_made c.args.table.now _ _ c.args.n c.requires.0 c.requires.1 (c.copy_from_slice.ensures.after ∙ c.front.ensures)
+    row_made c.args.rows.now _ _ c.args.n c.requires.0 c.requires.1 (c.copy_from_slice.ensures.after ∙ c.front.ensures)
     (c.copy_from_slice-2.ensures.after ∙ c.back.ensures)

@@ -9,15 +9,14 @@ loop-i-init c =
     let a = c.args in
     say (lines_all a.answers.now a.packets.now a.ways.now (joined a.thousands a.rest) a.count) (begin c.requires.0)
 
-pub event-next-requires : goal.event-next-requires
-event-next-requires c =
+pub event-page-requires : goal.event-page-requires
+event-page-requires c =
     let a = c.args in
     let k = c.loop-i.i in
     let more = c.loop-i-test.true in (
       room_line a.answers.now a.packets.now a.ways.now a.thousands a.rest k a.count more c.loop-i.invariant,
       c.requires.1,
-      c.requires.2,
-      omega (arith, c.requires.3, more),
+      omega (arith, c.requires.2, more),
     )
 
 pub loop-i-preserved : goal.loop-i-preserved
@@ -25,7 +24,7 @@ loop-i-preserved c =
     let a = c.args in
     let k = c.loop-i.i in
     let more = c.loop-i-test.true in
-    step_line a.answers.now a.packets.now a.ways.now a.thousands a.rest k a.count more c.loop-i.invariant c.event-next.ensures
+    step_line a.answers.now a.packets.now a.ways.now a.thousands a.rest k a.count more c.loop-i.invariant c.event-page.ensures
 
 pub returns : goal.returns
 returns c =

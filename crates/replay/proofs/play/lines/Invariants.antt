@@ -6,5 +6,5 @@ use Rattle.letters.proofs.Pending.{Pending}
 use Rattle.replay.proofs.play.lines.Given as goal
 
 abbrev pub invariant-loop-i : goal.invariant-loop-i
-invariant-loop-i l = Pending l.initial.out l.at (code_lines l.answers l.packets l.ways (joined l.thousands l.rest) 0 l.count) l.out l.next
+invariant-loop-i l = Pending l.initial.page (code_lines l.answers l.packets l.ways (joined l.thousands l.rest) 0 l.count) l.page
     (code_lines l.answers l.packets l.ways (joined l.thousands l.rest + l.i) l.i (l.count - l.i))

@@ -8,11 +8,11 @@ use Rattle.replay.specs.Runs.{text_of}
 use Rattle.replay.proofs.Running.{Running}
 use Rattle.replay.proofs.run.run.Given as goal
 
-abbrev pub invariant-loop-out : goal.invariant-loop-out
-invariant-loop-out l = Running l.file l.initial.out (text_of l.file l.from l.initial.network) l.out l.network l.at (joined l.thousands l.rest) l.next
+abbrev pub invariant-loop-page : goal.invariant-loop-page
+invariant-loop-page l = Running l.file l.initial.page (text_of l.file l.from l.initial.network) l.page l.network l.at (joined l.thousands l.rest)
     × (l.rest < chunk)
     × (length l.kinds ≡ chunk)
     × (length l.arguments ≡ chunk)
 
-abbrev pub decreases-loop-out : goal.decreases-loop-out
-decreases-loop-out l = length l.file - l.at
+abbrev pub decreases-loop-page : goal.decreases-loop-page
+decreases-loop-page l = length l.file - l.at

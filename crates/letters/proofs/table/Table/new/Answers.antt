@@ -4,7 +4,7 @@ use lib.Seq.{length-sets}
 use native.Mathlib.Omega.{arith}
 use Rattle.letters.specs.Digits.{rows_below}
 use Rattle.letters.proofs.DigitRows.{rows_more, rows_all}
-use Rattle.letters.proofs.table.rows.Goals as goal
+use Rattle.letters.proofs.table.Table.new.Goals as goal
 
 pub loop-n-init : goal.loop-n-init
 unfolding rows_below
@@ -13,14 +13,14 @@ loop-n-init c = (refl, refl)
 pub row-requires : goal.row-requires
 row-requires c =
     let inv = c.loop-n.invariant in
-    (c.loop-n-test.true, ap length inv.1 ∙ length-sets _ 0 (rows_below _) ∙ inv.0)
+    (omega arith, ap length inv.1 ∙ length-sets _ 0 (rows_below _) ∙ inv.0)
 
 pub loop-n-preserved : goal.loop-n-preserved
 loop-n-preserved c =
     let inv = c.loop-n.invariant in
-    (inv.0, rows_more _ _ _ _ c.loop-n-test.true inv.1 c.row.ensures)
+    (inv.0, rows_more _ _ _ _ (omega arith) inv.1 c.row.ensures)
 
-pub returns : goal.returns
-returns c =
+pub invariant_of-result : goal.invariant_of-result
+invariant_of-result c =
     let loop = c.loop-n in
-    rows_all _ _ _ loop.invariant.0 (omega arith) loop.invariant.1
+    record { right = rows_all _ _ _ loop.invariant.0 (omega arith) loop.invariant.1 }
