@@ -137,10 +137,10 @@ fn the_exceptions_are_those_of_the_code() {
     let faults = |page: &str| exceptions::faults(&tree(), page);
     assert_eq!(faults(&page), Vec::<String>::new());
     assert_eq!(
-        faults(&page.replace("`arrays::other`", "`arrays::wide`")),
+        faults(&page.replace("`arrays::other`", "`arrays::none`")),
         [
             "docs/EXCEPTIONS.md: `arrays::other` requires something",
-            "docs/EXCEPTIONS.md: `arrays::wide` requires nothing"
+            "docs/EXCEPTIONS.md: `arrays::none` requires nothing"
         ]
     );
 }

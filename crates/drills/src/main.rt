@@ -13,7 +13,7 @@ use std::rt::Files;
 const MOST: usize = 1_000;
 
 fn run(out: &impl Print, from: &mut impl Read) -> io::Result<()> {
-    let mut file = [0; streams::INPUT];
+    let mut file = streams::input();
     let n = streams::read_full(from, &mut file)?;
     let mut text = [0; model::TEXT_MOST];
     let length = replay::text(&file[..n], &mut text);

@@ -14,8 +14,12 @@ pub record Put (p : Page) (w : List ℕ) (q : Page) : Type 0 where
   pub next : q.at ≡ p.at + length w
   pub stores : q.out.now ≡ sets p.out.now p.at w
 
--- a page of a lent part, at its front
-pub record Opens (out : List ℕ) (name : ℕ) (p : Page) : Type 0 where
+-- a page of a lent part, from a position on
+pub record Begins (out : List ℕ) (name at : ℕ) (p : Page) : Type 0 where
   pub same : p.out.ghost_name ≡ name
-  pub front : p.at ≡ 0
+  pub front : p.at ≡ at
   pub text : p.out.now ≡ out
+
+-- a page of a lent part, at its front
+abbrev pub Opens : List ℕ → ℕ → Page → Type 0
+Opens out name p = Begins out name 0 p

@@ -8,4 +8,4 @@ mod table;
 
 pub use digits::digit;
 pub use page::Page;
-pub use table::{THOUSAND, Table};
+pub use table::{TABLE, THOUSAND, Table, rows};

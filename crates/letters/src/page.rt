@@ -1,7 +1,7 @@
 // The text as far as it is written: a lent part that holds any text, and the position after the bytes written.
 ghost use Rattle.std.specs.Prelude.{◌≡◌, [], ◌∷◌, ◌++◌, ◌+◌, ◌≤◌, ◌<◌};
 ghost use Rattle.model.specs.Text.{ascii, digits};
-ghost use Rattle.letters.specs.Puts.{Room, Put, Opens};
+ghost use Rattle.letters.specs.Puts.{Room, Put, Opens, Begins};
 ghost use Rattle.letters.specs.Digits.{thousand, joined, table_size, half_at};
 
 use crate::digits::digit;
@@ -18,6 +18,13 @@ impl<'a> Page<'a> {
         ensures { Opens out.old out.entry.ghost_name result }
     {
         Page { out, at: 0 }
+    }
+
+    // A page behind so many bytes, which stay as they are.
+    pub fn behind(out: &'a mut [u8; model::TEXT_MOST], bytes: usize) -> Page<'a>
+        ensures { Begins out.old out.entry.ghost_name bytes result }
+    {
+        Page { out, at: bytes }
     }
 
     // How many bytes are written.

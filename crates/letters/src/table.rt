@@ -11,9 +11,9 @@ pub(crate) const WIDE: usize = 8;
 
 pub(crate) const HALF: usize = 4;
 
-const TABLE: usize = WIDE * THOUSAND;
+pub const TABLE: usize = WIDE * THOUSAND;
 
-#[derive(Drop)]
+#[derive(Clone, Copy)]
 pub struct Table {
     pub(crate) rows: [u8; TABLE],
     ghost right: { rows ≡ digit_rows },
@@ -49,14 +49,29 @@ fn row(rows: &mut [u8; TABLE], n: usize)
     rows[at + HALF..at + WIDE].copy_from_slice(&back(n));
 }
 
+// The rows of all numbers below a thousand.
+pub fn rows() -> [u8; TABLE]
+    ensures { result ≡ digit_rows }
+{
+    let mut rows = [0u8; TABLE];
+    for n in 0..THOUSAND {
+        row(&mut rows, n);
+    }
+    rows
+}
+
 impl Table {
     pub fn new() -> Table
         ensures { result.rows ≡ digit_rows }
     {
-        let mut rows = [0u8; TABLE];
-        for n in 0..THOUSAND {
-            row(&mut rows, n);
-        }
+        Table { rows: rows() }
+    }
+
+    // A table of rows that a caller has.
+    pub fn of(rows: [u8; TABLE]) -> Table
+        requires { rows ≡ digit_rows }
+        ensures { result.rows ≡ digit_rows }
+    {
         Table { rows }
     }
 }

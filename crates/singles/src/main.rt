@@ -5,7 +5,7 @@ use departs::Step;
 use model::{Handled, Went};
 use network::{Network, Tally};
 use std::io;
-use streams::INPUT;
+use streams::{INPUT, input};
 
 const MULTIPLIER: usize = 16_777_619;
 
@@ -71,7 +71,7 @@ fn calls(file: &[u8], from: usize, opened: Network) -> usize {
 }
 
 fn main(rt: HostRuntime) -> io::Result<()> {
-    let mut file = [0; INPUT];
+    let mut file = input();
     let length = streams::read_full(&mut rt.stdin(), &mut file)?;
     let header = reader::header_of(&file[..length]);
     let next = header.next;

@@ -1,13 +1,21 @@
 // Reading a stream into a lent part.
 #![tactic(auto)]
 
-ghost use Rattle.std.specs.Prelude.{◌<◌, ◌≤◌, length, take, IfOk};
+ghost use Rattle.std.specs.Prelude.{◌≡◌, ◌+◌, ◌<◌, ◌≤◌, length, take, IfOk};
 ghost use Rattle.std.specs.Io.KnownBytes.{Consumes, IsAtEnd};
+ghost use Rattle.model.specs.Limits.{file_most};
 
 use std::io::{Read, Result};
 
 // Room for a drill file: one byte more than it may have, so that a longer one is seen.
 pub const INPUT: usize = model::FILE + 1;
+
+// That room, with nothing in it.
+pub fn input() -> [u8; INPUT]
+    ensures { file_most + 1 ≡ length result }
+{
+    [0; INPUT]
+}
 
 // Reads until the part is full or the stream ends: how many bytes stand at the part's front.
 pub fn read_full<R: Read>(from: &mut R, part: &mut [u8]) -> Result<usize>

@@ -7,7 +7,7 @@ const MULTIPLIER: usize = 48_271;
 const MODULUS: usize = 2_147_483_647;
 
 // What is drawn follows from one number.
-#[derive(Drop)]
+#[derive(Clone, Copy)]
 pub struct Draws {
     pub x: usize,
 }

@@ -1,10 +1,12 @@
-// What the programs of docs/CALLS.md share: the largest number, the generator, the checksum.
+// What the programs of docs/CALLS.md share: their numbers, the generator, the checksum.
 #![tactic(auto)]
 
 mod generator;
+mod number;
 mod sum;
 
 pub use generator::Draws;
+pub use number::{double, narrow, plus, rest};
 pub use sum::{of_bytes, of_record};
 
 // G of docs/CALLS.md.

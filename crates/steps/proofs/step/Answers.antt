@@ -51,62 +51,70 @@ returns-then-tally-ge-EVENTS-clause-flying c flight told many = refused_long (go
 
 pub returns-in-1-clause-outcome : goal.returns-in-1-clause-outcome
 returns-in-1-clause-outcome c flight told many formed =
+    let kind : c.args.kind ≡ 1 = omega arith in
     let a = c.args in
     let r = c.send_step.result in
     let s = shown a.plan.now a.arrows.now flight a.tally in
-    with_flight a.plan.now c.send_step.new.arrows r (flies_send a.argument c.send_step.new.arrows.local flight r.answer r.handled r.went c.in-1.is)
-    (of_kind_lem s a.argument 1 c.in-1.is (c.send_step.ensures.outcome flight many formed ∙ call_send s a.argument))
+    with_flight a.plan.now c.send_step.new.arrows r (flies_send a.argument c.send_step.new.arrows.local flight r.answer r.handled r.went kind)
+    (of_kind_lem s a.argument 1 kind (c.send_step.ensures.outcome flight many formed ∙ call_send s a.argument))
 
 pub returns-in-1-clause-flying : goal.returns-in-1-clause-flying
 returns-in-1-clause-flying c flight told many =
+    let kind : c.args.kind ≡ 1 = omega arith in
     let r = c.send_step.result in
-    ap (λ (f : List Packet). length f) (flies_send c.args.argument c.send_step.new.arrows.local flight r.answer r.handled r.went c.in-1.is)
+    ap (λ (f : List Packet). length f) (flies_send c.args.argument c.send_step.new.arrows.local flight r.answer r.handled r.went kind)
     ∙ c.send_step.ensures.flying flight many
 
 pub returns-in-2-clause-outcome : goal.returns-in-2-clause-outcome
 returns-in-2-clause-outcome c flight told many formed =
+    let kind : c.args.kind ≡ 2 = omega arith in
     let a = c.args in
     let r = c.deliver_step.result in
     let s = shown a.plan.now a.arrows.now flight a.tally in
-    with_flight a.plan.now c.deliver_step.new.arrows r (flies_deliver a.argument c.deliver_step.new.arrows.local flight r.answer r.handled r.went c.in-2.is)
-    (of_kind_lem s a.argument 2 c.in-2.is (c.deliver_step.ensures.outcome flight (told_deliver flight a.argument c.in-2.is told) formed ∙ call_deliver s a.argument))
+    with_flight a.plan.now c.deliver_step.new.arrows r (flies_deliver a.argument c.deliver_step.new.arrows.local flight r.answer r.handled r.went kind)
+    (of_kind_lem s a.argument 2 kind (c.deliver_step.ensures.outcome flight (told_deliver flight a.argument kind told) formed ∙ call_deliver s a.argument))
 
 pub returns-in-2-clause-flying : goal.returns-in-2-clause-flying
 returns-in-2-clause-flying c flight told many =
+    let kind : c.args.kind ≡ 2 = omega arith in
     let a = c.args in
     let r = c.deliver_step.result in
-    ap (λ (f : List Packet). length f) (flies_deliver a.argument c.deliver_step.new.arrows.local flight r.answer r.handled r.went c.in-2.is)
-    ∙ c.deliver_step.ensures.flying flight (told_deliver flight a.argument c.in-2.is told) many
+    ap (λ (f : List Packet). length f) (flies_deliver a.argument c.deliver_step.new.arrows.local flight r.answer r.handled r.went kind)
+    ∙ c.deliver_step.ensures.flying flight (told_deliver flight a.argument kind told) many
 
 pub returns-in-3-clause-outcome : goal.returns-in-3-clause-outcome
 returns-in-3-clause-outcome c flight told many formed =
+    let kind : c.args.kind ≡ 3 = omega arith in
     let a = c.args in
     let r = c.lose_step.result in
     let s = shown a.plan.now a.arrows.now flight a.tally in
-    with_flight a.plan.now a.arrows.now r (flies_lose a.argument a.arrows.now.local flight r.answer r.handled r.went c.in-3.is)
-    (of_kind_lem s a.argument 3 c.in-3.is (c.lose_step.ensures.outcome a.plan.now a.arrows.now flight refl refl (told_lose flight a.argument c.in-3.is told) formed ∙ call_lose s a.argument))
+    with_flight a.plan.now a.arrows.now r (flies_lose a.argument a.arrows.now.local flight r.answer r.handled r.went kind)
+    (of_kind_lem s a.argument 3 kind (c.lose_step.ensures.outcome a.plan.now a.arrows.now flight refl refl (told_lose flight a.argument kind told) formed ∙ call_lose s a.argument))
 
 pub returns-in-3-clause-flying : goal.returns-in-3-clause-flying
 returns-in-3-clause-flying c flight told many =
+    let kind : c.args.kind ≡ 3 = omega arith in
     let a = c.args in
     let r = c.lose_step.result in
-    ap (λ (f : List Packet). length f) (flies_lose a.argument a.arrows.now.local flight r.answer r.handled r.went c.in-3.is)
-    ∙ c.lose_step.ensures.flying flight (told_lose flight a.argument c.in-3.is told) many
+    ap (λ (f : List Packet). length f) (flies_lose a.argument a.arrows.now.local flight r.answer r.handled r.went kind)
+    ∙ c.lose_step.ensures.flying flight (told_lose flight a.argument kind told) many
 
 pub returns-in-4-clause-outcome : goal.returns-in-4-clause-outcome
 returns-in-4-clause-outcome c flight told many formed =
+    let kind : c.args.kind ≡ 4 = omega arith in
     let a = c.args in
     let r = c.fail_step.result in
     let s = shown a.plan.now a.arrows.now flight a.tally in
-    with_flight a.plan.now c.fail_step.new.arrows r (flies_fail a.argument c.fail_step.new.arrows.local flight r.answer r.handled r.went c.in-4.is)
-    (of_kind_lem s a.argument 4 c.in-4.is (c.fail_step.ensures.outcome flight (told_fail flight a.argument c.in-4.is told) formed ∙ call_fail s a.argument))
+    with_flight a.plan.now c.fail_step.new.arrows r (flies_fail a.argument c.fail_step.new.arrows.local flight r.answer r.handled r.went kind)
+    (of_kind_lem s a.argument 4 kind (c.fail_step.ensures.outcome flight (told_fail flight a.argument kind told) formed ∙ call_fail s a.argument))
 
 pub returns-in-4-clause-flying : goal.returns-in-4-clause-flying
 returns-in-4-clause-flying c flight told many =
+    let kind : c.args.kind ≡ 4 = omega arith in
     let a = c.args in
     let r = c.fail_step.result in
-    ap (λ (f : List Packet). length f) (flies_fail a.argument c.fail_step.new.arrows.local flight r.answer r.handled r.went c.in-4.is)
-    ∙ c.fail_step.ensures.flying flight (told_fail flight a.argument c.in-4.is told) many
+    ap (λ (f : List Packet). length f) (flies_fail a.argument c.fail_step.new.arrows.local flight r.answer r.handled r.went kind)
+    ∙ c.fail_step.ensures.flying flight (told_fail flight a.argument kind told) many
 
 pub returns-in_default-clause-outcome : goal.returns-in_default-clause-outcome
 returns-in_default-clause-outcome c flight told many formed =

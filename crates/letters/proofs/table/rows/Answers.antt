@@ -4,7 +4,7 @@ use lib.Seq.{length-sets}
 use native.Mathlib.Omega.{arith}
 use Rattle.letters.specs.Digits.{rows_below}
 use Rattle.letters.proofs.DigitRows.{rows_more, rows_all}
-use Rattle.letters.proofs.table.Table.new.Goals as goal
+use Rattle.letters.proofs.table.rows.Goals as goal
 
 pub loop-n-init : goal.loop-n-init
 unfolding rows_below
@@ -20,7 +20,7 @@ loop-n-preserved c =
     let inv = c.loop-n.invariant in
     (inv.0, rows_more _ _ _ _ (omega arith) inv.1 c.row.ensures)
 
-pub invariant_of-result : goal.invariant_of-result
-invariant_of-result c =
+pub returns : goal.returns
+returns c =
     let loop = c.loop-n in
-    record { right = rows_all _ _ _ loop.invariant.0 (omega arith) loop.invariant.1 }
+    rows_all _ _ _ loop.invariant.0 (omega arith) loop.invariant.1
