@@ -9,7 +9,7 @@ ghost use Rattle.model.specs.Deliver.{deliver_on};
 ghost use Rattle.arrays.specs.declared.Oldest.{Oldest};
 ghost use Rattle.arrays.specs.View.{shown, ends_seen};
 ghost use Rattle.arrays.specs.Told.{oldest_in, without, passed};
-ghost use Rattle.departs.specs.Steps.{outcome_of, Chained, MarksLive, Fair, Sound};
+ghost use Rattle.departs.specs.Steps.{outcome_of, Room, Chained, MarksLive, Fair, Sound};
 ghost use Rattle.arrivals.specs.Landing.{landed, heard};
 
 use crate::lanes::first_on;
@@ -40,6 +40,7 @@ fn land(
     ensures outcome { (flight : List Packet) → outcome_of (shown plan.now arrows.new (passed arrows.new.local flight result.handled result.went) result.tally) result ≡ landed (shown plan.now arrows.old flight tally) y n }
     ensures flying { (flight : List Packet) → length flight ≡ tally.flying → length (passed arrows.new.local flight result.handled result.went) ≡ result.tally.flying }
     ensures accepted { result.answer ≡ 0 }
+    ensures long { Room arrows.new }
     ensures live { arrows.new.live ≡ arrows.old.live }
     ensures remote { arrows.new.remote ≡ arrows.old.remote }
 {
@@ -80,6 +81,8 @@ pub fn deliver_step(
     requires chained { Chained threads plan.now }
     ensures outcome { (flight : List Packet) → told ≡ oldest_in (on_lane x flight) → well_formed (shown plan.now arrows.old flight tally) ≡ true → outcome_of (shown plan.now arrows.new (passed arrows.new.local (without result.answer x flight) result.handled result.went) result.tally) result ≡ deliver_on (shown plan.now arrows.old flight tally) x }
     ensures flying { (flight : List Packet) → told ≡ oldest_in (on_lane x flight) → length flight ≡ tally.flying → length (passed arrows.new.local (without result.answer x flight) result.handled result.went) ≡ result.tally.flying }
+    ensures long { Room arrows.new }
+    ensures remote_long { length arrows.new.remote ≡ ends_most }
     ensures live { arrows.new.live ≡ arrows.old.live }
     ensures refused { (result.answer ≡ 0 → ⊥) → (result.tally ≡ tally) × (arrows.new ≡ arrows.old) }
 {

@@ -1,6 +1,6 @@
 -- An event on the arrays of a record: what is asked of them.
-use Rattle.std.specs.Prelude.{ℕ, ◌+◌, ◌*◌, ◌/◌, ◌<◌, ◌≤◌, ◌≡◌, true, false, IfSome, Option, get_or}
-use Rattle.model.specs.Limits.{nodes_most, links_most, flight_most, events_most}
+use Rattle.std.specs.Prelude.{ℕ, ◌+◌, ◌*◌, ◌/◌, ◌<◌, ◌≤◌, ◌≡◌, true, false, IfSome, Option, length, get_or}
+use Rattle.model.specs.Limits.{nodes_most, links_most, ends_most, flight_most, events_most}
 use Rattle.model.specs.State.{State}
 use Rattle.model.specs.Outcome.{Outcome}
 use Rattle.std.specs.Borrow.{Bor}
@@ -9,11 +9,23 @@ use Rattle.arrays.specs.declared.record.Arrows.{Arrows}
 use Rattle.arrays.specs.declared.record.Tally.{Tally}
 use Rattle.ways.specs.declared.chain.Threads.{Threads}
 use Rattle.ways.specs.Chains.{Chain}
+use Rattle.turning.specs.Turned.{Long}
 use Rattle.departs.specs.declared.tally.Step.{Step}
 
 -- what a step gives, beside the state that it leaves
 abbrev pub outcome_of : State → Step → Outcome
 outcome_of s r = record { state = s; answer = r.answer; handled = r.handled; went = r.went }
+
+-- every array that a packet's way can change has its full length
+pub record Room (a : Arrows) : Type 0 where
+  pub long : Long a
+  pub turns_long : length a.turns ≡ nodes_most
+
+-- and so has every array that any event can change
+pub record Whole (a : Arrows) : Type 0 where
+  pub live_long : length a.live ≡ links_most
+  pub remote_long : length a.remote ≡ ends_most
+  pub more : Room a
 
 -- where the chains are threaded they are right
 abbrev pub Chained : Option (Bor Threads) → Plan → Type 0

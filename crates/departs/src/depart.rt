@@ -6,7 +6,7 @@ ghost use Rattle.model.specs.Departure.{has_live, has_out, turn as turn_of};
 ghost use Rattle.model.specs.Outcome.{leaves, leaves_by, onward as onward_of};
 ghost use Rattle.arrays.specs.declared.record.Tally.{Tally};
 ghost use Rattle.arrays.specs.View.{shown, ends_seen};
-ghost use Rattle.departs.specs.Steps.{Chained, MarksLive};
+ghost use Rattle.departs.specs.Steps.{Room, Chained, MarksLive};
 
 use arrays::{Arrows, Plan};
 use turning::turn;
@@ -22,6 +22,7 @@ pub fn turned_way(plan: &Plan, threads: Option<&Threads>, arrows: &mut Arrows, v
     requires chained { Chained threads plan.now }
     ensures leaves { (flight : List Packet) (t : Tally) (n : ℕ) → leaves (shown plan.now arrows.new flight t) result n ≡ leaves_by (turn_of (shown plan.now arrows.old flight t) v) v n }
     ensures within { result < 2 * plan.now.links }
+    ensures long { Room arrows.new }
     ensures live { arrows.new.live ≡ arrows.old.live }
     ensures remote { arrows.new.remote ≡ arrows.old.remote }
 {
@@ -40,6 +41,7 @@ pub fn onward(plan: &Plan, threads: Option<&Threads>, arrows: &mut Arrows, v: us
     requires marks { MarksLive plan.now arrows.old }
     ensures leaves { (flight : List Packet) (t : Tally) (n : ℕ) → leaves (shown plan.now arrows.new flight t) result n ≡ onward_of (shown plan.now arrows.old flight t) v n }
     ensures within { result < 2 * plan.now.links }
+    ensures long { Room arrows.old → Room arrows.new }
     ensures live { arrows.new.live ≡ arrows.old.live }
     ensures remote { arrows.new.remote ≡ arrows.old.remote }
 {

@@ -9,7 +9,7 @@ ghost use Rattle.model.specs.Formed.{well_formed};
 ghost use Rattle.model.specs.Send.{send_to};
 ghost use Rattle.arrays.specs.View.{shown};
 ghost use Rattle.arrays.specs.Told.{passed};
-ghost use Rattle.departs.specs.Steps.{outcome_of, Chained, Sound};
+ghost use Rattle.departs.specs.Steps.{outcome_of, Room, Chained, Sound};
 
 use arrays::{Arrows, Plan, Tally};
 use departs::{FLIGHT_FULL, NO_SUCH, Step, bare, counted, done, turned_way};
@@ -28,6 +28,7 @@ pub fn send_step(
     requires chained { Chained threads plan.now }
     ensures outcome { (flight : List Packet) → length flight ≡ tally.flying → well_formed (shown plan.now arrows.old flight tally) ≡ true → outcome_of (shown plan.now arrows.new (passed arrows.new.local flight result.handled result.went) result.tally) result ≡ send_to (shown plan.now arrows.old flight tally) v }
     ensures flying { (flight : List Packet) → length flight ≡ tally.flying → length (passed arrows.new.local flight result.handled result.went) ≡ result.tally.flying }
+    ensures long { Room arrows.old → Room arrows.new }
     ensures live { arrows.new.live ≡ arrows.old.live }
     ensures remote { arrows.new.remote ≡ arrows.old.remote }
     ensures refused { (result.answer ≡ 0 → ⊥) → (result.tally ≡ tally) × (arrows.new ≡ arrows.old) }

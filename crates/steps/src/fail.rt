@@ -1,6 +1,6 @@
 // Fail a link.
 ghost use Rattle.std.specs.Prelude.{◌≡◌, true, List, ◌-◌, ◌≤◌, length};
-ghost use Rattle.model.specs.Limits.{links_most, flight_most};
+ghost use Rattle.model.specs.Limits.{links_most, ends_most, flight_most};
 ghost use Rattle.model.specs.State.{Packet};
 ghost use Rattle.model.specs.Formed.{well_formed};
 ghost use Rattle.model.specs.Fail.{off, fail_of};
@@ -25,6 +25,8 @@ pub(crate) fn fail_step(
     requires fair { Fair tally }
     ensures outcome { (flight : List Packet) → gone ≡ length flight - length (off l flight) → well_formed (shown plan.now arrows.old flight tally) ≡ true → outcome_of (shown plan.now arrows.new (passed arrows.new.local (cleared result.answer l flight) result.handled result.went) result.tally) result ≡ fail_of (shown plan.now arrows.old flight tally) l }
     ensures flying { (flight : List Packet) → gone ≡ length flight - length (off l flight) → length flight ≡ tally.flying → length (passed arrows.new.local (cleared result.answer l flight) result.handled result.went) ≡ result.tally.flying }
+    ensures live_long { length arrows.new.live ≡ links_most }
+    ensures mark_long { length arrows.new.mark ≡ ends_most }
     ensures frames { (arrows.new.out ≡ arrows.old.out) × (arrows.new.local ≡ arrows.old.local) × (arrows.new.remote ≡ arrows.old.remote) × (arrows.new.turns ≡ arrows.old.turns) }
     ensures refused { (result.answer ≡ 0 → ⊥) → (result.tally ≡ tally) × (arrows.new ≡ arrows.old) }
 {

@@ -11,7 +11,7 @@ ghost use Rattle.steps.specs.Call.{call};
 ghost use Rattle.arrays.specs.declared.Oldest.{Oldest};
 ghost use Rattle.arrays.specs.View.{shown};
 ghost use Rattle.arrays.specs.Told.{tells, flies};
-ghost use Rattle.departs.specs.Steps.{outcome_of, Chained, Sound};
+ghost use Rattle.departs.specs.Steps.{outcome_of, Chained, Whole, Sound};
 
 use arrays::{Arrows, Plan, Tally, Told};
 use arrivals::{deliver_step, lose_step};
@@ -38,6 +38,7 @@ pub fn step(
     requires gone { told.gone ≤ tally.flying }
     ensures outcome { (flight : List Packet) → told ≡ tells flight kind argument → length flight ≡ tally.flying → well_formed (shown plan.now arrows.old flight tally) ≡ true → outcome_of (shown plan.now arrows.new (flies kind argument arrows.new.local flight result.answer result.handled result.went) result.tally) result ≡ call (shown plan.now arrows.old flight tally) kind argument }
     ensures flying { (flight : List Packet) → told ≡ tells flight kind argument → length flight ≡ tally.flying → length (flies kind argument arrows.new.local flight result.answer result.handled result.went) ≡ result.tally.flying }
+    ensures long { Whole arrows.old → Whole arrows.new }
     ensures refused { (result.answer ≡ 0 → ⊥) → (result.tally ≡ tally) × (arrows.new ≡ arrows.old) }
 {
     if model::EVENTS <= tally.events {

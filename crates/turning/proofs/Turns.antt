@@ -100,8 +100,8 @@ module _ (p : Plan) (v : ℕ) (full : Bool) where
   one_ours y e = rw (le-leb y y (omega arith), lt-ltb y (y + 1) (omega arith)) (eq-eqb (get_or p.node y 0) v e)
 
   -- ---- no end of v
-  part_none : (a : Arrows) (from to : ℕ) → ((x : ℕ) → from ≤ x → x < to → here x ≡ false) → Part p v full from to a a
-  part_none a from to h =
+  part_none : (a : Arrows) (from to : ℕ) → Long a → ((x : ℕ) → from ≤ x → x < to → here x ≡ false) → Part p v full from to a a
+  part_none a from to long h =
       record {
         out_at = λ x. rw (none_ours from to x (h x));
         local_at = λ x. rw (none_ours from to x (h x));
@@ -109,10 +109,11 @@ module _ (p : Plan) (v : ℕ) (full : Bool) where
         live = refl;
         remote = refl;
         turned = refl;
+        long = long;
       }
 
-  pub part_start : (a : Arrows) (from : ℕ) → Part p v full from from a a
-  part_start a from = part_none a from from (λ x h l. absurd (omega arith))
+  pub part_start : (a : Arrows) (from : ℕ) → Long a → Part p v full from from a a
+  part_start a from long = part_none a from from long (λ x h l. absurd (omega arith))
 
   -- ---- what the code puts at an end of v
   module _ (a : Arrows) (y : ℕ) (e : get_or p.node y 0 ≡ v) (l : y < ends_most) (long : Long (turned_end full a y)) where
@@ -128,6 +129,7 @@ module _ (p : Plan) (v : ℕ) (full : Bool) where
           live = refl;
           remote = refl;
           turned = refl;
+          long = long;
         }
 
   -- ---- one part, then another
@@ -147,6 +149,7 @@ module _ (p : Plan) (v : ℕ) (full : Bool) where
           live = r.live ∙ q.live;
           remote = r.remote ∙ q.remote;
           turned = r.turned ∙ q.turned;
+          long = r.long;
         }
 
     -- the next end is one of v, or of another node; the next ends are none of v's
@@ -154,7 +157,7 @@ module _ (p : Plan) (v : ℕ) (full : Bool) where
     part_more k e l = part_join _ _ (part_one b to e l k) (omega arith)
 
     pub part_pass : (end : ℕ) → to ≤ end → ((x : ℕ) → to ≤ x → x < end → here x ≡ false) → Part p v full from end a b
-    part_pass end k e = part_join b end (part_none b to end e) k
+    part_pass end k e = part_join b end (part_none b to end q.long e) k
 
     pub part_on : (get_or p.node to 0 ≡ v → ⊥) → Part p v full from (to + 1) a b
     part_on e = part_pass (to + 1) (omega arith) (λ x k l. subst (λ n. here n ≡ false) (omega arith) (ne_eqb (get_or p.node to 0) v e))
@@ -205,4 +208,5 @@ module _ (p : Plan) (v : ℕ) (full : Bool) where
               (λ x h. rw (used_out p.links false a.live (x / 2) (omega arith), used_out K false a.mark x h) (sym (cond_same (eqb (used K 0 p.node x) v))));
           live = q.live;
           remote = q.remote;
+          long = q.long;
         }

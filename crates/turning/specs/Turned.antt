@@ -1,4 +1,4 @@
--- What a turn leaves in the arrows.
+-- What a turn leaves in the arrows, whose arrays are as long as they were.
 use Rattle.std.specs.Prelude.{ℕ, ◌*◌, ◌/◌, ◌≡◌, Bool, false, not, cond, ◌&&◌, ◌||◌, List, leb, ltb, eqb, length, get_or, set}
 use Rattle.model.specs.Limits.{ends_most}
 use Rattle.model.specs.Departure.{turn}
@@ -46,6 +46,7 @@ pub record Part (p : Plan) (v : ℕ) (full : Bool) (from to : ℕ) (a b : Arrows
   pub live : b.live ≡ a.live
   pub remote : b.remote ≡ a.remote
   pub turned : b.turns ≡ a.turns
+  pub long : Long b
 
 -- a turn of v has had the ends in use; links and remote bits stay
 pub record Turned (p : Plan) (v : ℕ) (a b : Arrows) : Type 0 where
@@ -54,3 +55,4 @@ pub record Turned (p : Plan) (v : ℕ) (a b : Arrows) : Type 0 where
   pub mark : used (2 * p.links) false b.mark ≡ (turn (ends_seen p a) v).ends.mark
   pub live : b.live ≡ a.live
   pub remote : b.remote ≡ a.remote
+  pub long : Long b

@@ -35,7 +35,8 @@ fn turn_end(arrows: &mut Arrows, y: usize, full: bool)
 
 // Each end of v in the block has its part.
 fn turn_block(plan: &Plan, arrows: &mut Arrows, from: usize, v: u16, full: bool)
-    requires { from + 16 ≤ ends_most }
+    requires inside { from + 16 ≤ ends_most }
+    requires long { Long arrows.old }
     ensures { Part plan.now v full from (from + 16) arrows.old arrows.new }
 {
     for x in 0..BLOCK {
@@ -49,6 +50,7 @@ fn turn_block(plan: &Plan, arrows: &mut Arrows, from: usize, v: u16, full: bool)
 // Each end of v has its part; blocks without one are passed.
 fn turn_ends(plan: &Plan, arrows: &mut Arrows, v: u16, full: bool)
     requires fits { plan.now.links ≤ links_most }
+    requires long { Long arrows.old }
     requires mode { full ≡ not (has_mark (ends_seen plan.now arrows.old) v) }
     ensures ends { Turned plan.now v arrows.old arrows.new }
     ensures turns { arrows.new.turns ≡ arrows.old.turns }

@@ -25,6 +25,7 @@ returns c =
     record {
       leaves = λ flight t n. leaves_by_lem a.v _ n (turn_is a.plan.now a.arrows.now c.turn.new.arrows flight t a.v c.turn.ensures.ends c.turn.ensures.turns c.requires.node (omega arith)) w.1;
       within = way_within (ends_seen a.plan.now c.turn.new.arrows) a.v _ (sym c.unwrap.ensures ∙ c.way.ensures);
+      long = record { long = c.turn.ensures.ends.long; turns_long = c.turn.ensures.long };
       live = c.turn.ensures.ends.live;
       remote = c.turn.ensures.ends.remote;
     }

@@ -9,7 +9,7 @@ pub loop-x-init : goal.loop-x-init
 loop-x-init c =
     let a = c.args in
     let z : a.from + 0 ≡ a.from = omega arith in
-    rw z (part_start a.plan.now a.v a.full a.arrows.now a.from)
+    rw z (part_start a.plan.now a.v a.full a.arrows.now a.from c.requires.long)
 
 pub loop-x-preserved : goal.loop-x-preserved
 loop-x-preserved c =

@@ -8,7 +8,7 @@ use Rattle.turning.proofs.arrows.turn_ends.Goals.{then-block_has, else-block_has
 pub loop-block-init : goal.loop-block-init
 loop-block-init c =
     let a = c.args in
-    part_start a.plan.now a.v a.full a.arrows.now 0
+    part_start a.plan.now a.v a.full a.arrows.now 0 c.requires.long
 
 pub loop-block-preserved : goal.loop-block-preserved
 loop-block-preserved c =
