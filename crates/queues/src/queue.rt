@@ -34,6 +34,7 @@ impl Queues {
         ensures queued { Queued self.old → get_or self.old.first x 0 ≡ i → Queued self.new × (flown self.new ≡ less x (flown self.old)) }
         ensures is { self.new ≡ relaned self.old (set self.old.lane i no_lane) (set self.old.first x (get_or self.old.after i 0)) }
         ensures long { Roomy self.new }
+        ensures firsts { length self.new.first ≡ ends_most }
     {
         let next = self.after[i];
         self.first[x] = next;
@@ -79,6 +80,7 @@ impl Queues {
         ensures emptied { Emptied l self.old.used self.old.lane self.new.lane }
         ensures is { self.new ≡ relaned self.old self.new.lane (set (set self.old.first (2 * l) room) (2 * l + 1) room) }
         ensures long { Roomy self.new }
+        ensures firsts { length self.new.first ≡ ends_most }
     {
         empty(&mut self.lane, self.used, l);
         self.first[2 * l] = ROOM as u16;

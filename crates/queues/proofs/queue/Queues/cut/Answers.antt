@@ -1,6 +1,8 @@
 -- The link's slots are empty, and so are the queues of its two lanes. Assumes nothing.
 use native.Mathlib.Omega.{arith}
-use mathlib.Core.Path.{refl}
+use mathlib.Core.Path.{refl, ◌∙◌}
+use lib.ListN.{length-set}
+use Rattle.queues.specs.Queue.{room}
 use Rattle.queues.proofs.Cuts.{flown_off, queued_cut}
 use Rattle.queues.proofs.queue.Queues.cut.Goals as goal
 
@@ -15,4 +17,5 @@ returns c =
       emptied = e;
       is = refl;
       long = record { number_long = omega arith; lane_long = omega (arith, e.long); bit_long = omega arith };
+      firsts = length-set _ _ room ∙ length-set s.first _ room ∙ omega arith;
     }
