@@ -1,5 +1,5 @@
 -- The arrays of the packets in flight.
-use Rattle.std.specs.Prelude.{ℕ, ◌+◌, Bool, List}
+use Rattle.std.specs.Prelude.{ℕ, ◌+◌, ◌≡◌, Bool, List, length}
 use Rattle.model.specs.Limits.{flight_most}
 use Rattle.model.specs.State.{Packet}
 use Rattle.model.specs.Below.{tab}
@@ -12,6 +12,12 @@ moves = 32
 
 abbrev pub slots : ℕ
 slots = flight_most + moves
+
+-- an entry for each slot
+pub record Slots (f : Flight) : Type 0 where
+  pub number_long : length f.number ≡ slots
+  pub lane_long : length f.lane ≡ slots
+  pub bit_long : length f.bit ≡ slots
 
 -- the packets in the first k slots
 abbrev pub packets : List ℕ → List ℕ → List Bool → ℕ → List Packet

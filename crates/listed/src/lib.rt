@@ -5,7 +5,7 @@ ghost use Rattle.std.specs.Prelude.{◌≡◌, ℕ, ◌≤◌, ◌<◌, length, 
 ghost use Rattle.model.specs.declared.Went.{Went};
 ghost use Rattle.model.specs.declared.Handled.{Handled};
 ghost use Rattle.model.specs.Limits.{ends_most, flight_most};
-ghost use Rattle.arrays.specs.Flight.{flying_in};
+ghost use Rattle.arrays.specs.Flight.{Slots, flying_in};
 ghost use Rattle.arrays.specs.Told.{left, passed, flies};
 ghost use Rattle.listed.specs.Asked.{Listed};
 
@@ -72,8 +72,11 @@ fn pass_on(
     went: Went,
 ) -> usize
     requires { (n x : ℕ) → handled ≡ Handled.Packet n → went ≡ Went.Lane x → (x < ends_most) × (flying < flight_most) }
-    ensures { flying_in flight.new result ≡ passed arrows.now.local (flying_in flight.old flying) handled went }
+    ensures packets { flying_in flight.new result ≡ passed arrows.now.local (flying_in flight.old flying) handled went }
+    ensures long { Slots flight.new }
 {
+    // looked at for the proof alone, which then knows how long the arrays are
+    let _ = &flight.number;
     match handled {
         Handled::Packet(n) => match went {
             Went::Lane(x) => {
@@ -100,7 +103,8 @@ pub fn carry(
     went: Went,
 ) -> usize
     requires { (flying ≤ flight_most) × ((x : ℕ) → went ≡ Went.Lane x → x < ends_most) × (length (flies kind argument arrows.now.local (flying_in flight.old flying) answer handled went) ≤ flight_most) × Listed flight.old flying kind argument asked }
-    ensures { flying_in flight.new result ≡ flies kind argument arrows.now.local (flying_in flight.old flying) answer handled went }
+    ensures packets { flying_in flight.new result ≡ flies kind argument arrows.now.local (flying_in flight.old flying) answer handled went }
+    ensures long { Slots flight.new }
 {
     let mut stay = flying;
     if answer == 0 {

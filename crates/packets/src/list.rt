@@ -2,7 +2,7 @@
 ghost use Rattle.std.specs.Prelude.{◌≡◌, false, List, Bool, ℕ, [], ◌∷◌, ◌++◌, ◌+◌, ◌≤◌, ◌<◌, length, set};
 ghost use Rattle.model.specs.Limits.{ends_most, flight_most};
 ghost use Rattle.model.specs.Fail.{off};
-ghost use Rattle.arrays.specs.Flight.{moves, packets, flying_in};
+ghost use Rattle.arrays.specs.Flight.{moves, Slots, packets, flying_in};
 ghost use Rattle.packets.specs.Moves.{Moved, Removed, Stays};
 
 use arrays::{Flight, MOVES, SLOTS};
@@ -30,7 +30,10 @@ fn remove<T: Copy>(a: &mut [T; SLOTS], i: usize, last: usize)
 // The packet at place i goes; the order of the others stays.
 pub fn take_out(flight: &mut Flight, i: usize, last: usize)
     requires { (i ≤ last) × (last < flight_most) }
-    ensures { Removed 0 i last flight.old.number flight.new.number × Removed 0 i last flight.old.lane flight.new.lane × Removed false i last flight.old.bit flight.new.bit }
+    ensures number { Removed 0 i last flight.old.number flight.new.number }
+    ensures lane { Removed 0 i last flight.old.lane flight.new.lane }
+    ensures bit { Removed false i last flight.old.bit flight.new.bit }
+    ensures long { Slots flight.new }
 {
     remove(&mut flight.number, i, last);
     remove(&mut flight.lane, i, last);
@@ -40,7 +43,13 @@ pub fn take_out(flight: &mut Flight, i: usize, last: usize)
 // A packet becomes the newest in flight.
 pub fn put(flight: &mut Flight, flying: usize, n: u32, x: usize, b: bool)
     requires { (flying < flight_most) × (x < ends_most) }
-    ensures { (flying_in flight.new (flying + 1) ≡ flying_in flight.old flying ++ (record { number = n; lane = x; bit = b } ∷ [])) × (flight.new ≡ record { number = set flight.old.number flying n; lane = set flight.old.lane flying x; bit = set flight.old.bit flying b }) }
+    ensures packets { flying_in flight.new (flying + 1) ≡ flying_in flight.old flying ++ (record { number = n; lane = x; bit = b } ∷ []) }
+    ensures is { flight.new ≡ record {
+      number = set flight.old.number flying n;
+      lane = set flight.old.lane flying x;
+      bit = set flight.old.bit flying b;
+    } }
+    ensures long { Slots flight.new }
 {
     flight.number[flying] = n;
     flight.lane[flying] = x as u16;
@@ -50,7 +59,10 @@ pub fn put(flight: &mut Flight, flying: usize, n: u32, x: usize, b: bool)
 // The packets on no lane of link l stay, in their order, each moved at most once; gives how many.
 pub fn keep_off(flight: &mut Flight, flying: usize, l: usize) -> usize
     requires { flying ≤ flight_most }
-    ensures { (result ≤ flying) × (flying_in flight.new result ≡ off l (flying_in flight.old flying)) × Stays result flight.old flight.new }
+    ensures within { result ≤ flying }
+    ensures packets { flying_in flight.new result ≡ off l (flying_in flight.old flying) }
+    ensures stays { Stays result flight.old flight.new }
+    ensures long { Slots flight.new }
 {
     let mut w: usize = 0;
     for j in 0..flying {

@@ -6,7 +6,7 @@ ghost use Rattle.model.specs.declared.Went.{Went};
 ghost use Rattle.model.specs.declared.Handled.{Handled};
 ghost use Rattle.model.specs.Limits.{ends_most, flight_most};
 ghost use Rattle.arrays.specs.Told.{left, passed, flies};
-ghost use Rattle.queues.specs.Queue.{room, flown, Queued, InOrder, relaned};
+ghost use Rattle.queues.specs.Queue.{room, flown, Roomy, Queued, InOrder, relaned};
 ghost use Rattle.queued.specs.Asked.{Queueing};
 
 use arrays::{Arrows, Asked, Oldest, Told, none};
@@ -70,8 +70,12 @@ fn drop_out(queues: &mut Queues, kind: u32, argument: usize, asked: Asked)
 // A packet that left by an end becomes the newest.
 fn pass_on(queues: &mut Queues, arrows: &Arrows, handled: Handled, went: Went)
     requires { (queues.old.used < room) × ((x : ℕ) → went ≡ Went.Lane x → x < ends_most) × Queued queues.old }
-    ensures { (flown queues.new ≡ passed arrows.now.local (flown queues.old) handled went) × Queued queues.new }
+    ensures packets { flown queues.new ≡ passed arrows.now.local (flown queues.old) handled went }
+    ensures queued { Queued queues.new }
+    ensures long { Roomy queues.new }
 {
+    // looked at for the proof alone, which then knows how long the arrays are
+    let _ = &queues.number;
     match handled {
         Handled::Packet(n) => match went {
             Went::Lane(x) => {
@@ -96,7 +100,9 @@ pub fn carry(
     went: Went,
 )
     requires { (queues.old.used < room) × ((x : ℕ) → went ≡ Went.Lane x → x < ends_most) × Queued queues.old × Queueing queues.old kind argument asked }
-    ensures { (flown queues.new ≡ flies kind argument arrows.now.local (flown queues.old) answer handled went) × Queued queues.new }
+    ensures packets { flown queues.new ≡ flies kind argument arrows.now.local (flown queues.old) answer handled went }
+    ensures queued { Queued queues.new }
+    ensures long { Roomy queues.new }
 {
     if answer == 0 {
         drop_out(queues, kind, argument, asked);
@@ -107,7 +113,10 @@ pub fn carry(
 // Where all slots are in use, the packets move up: there is room for one more.
 pub fn room_for_one(queues: &mut Queues)
     requires { (length (flown queues.old) ≤ flight_most) × Queued queues.old }
-    ensures { (queues.new.used < room) × (flown queues.new ≡ flown queues.old) × Queued queues.new }
+    ensures room { queues.new.used < room }
+    ensures packets { flown queues.new ≡ flown queues.old }
+    ensures queued { Queued queues.new }
+    ensures long { Roomy queues.new }
 {
     if queues.used < ROOM {
         return;

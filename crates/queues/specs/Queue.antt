@@ -23,6 +23,12 @@ standing (p ∷ ps) = cond (eqb p.lane no_lane) (standing ps) (p ∷ standing ps
 abbrev pub flown : Queues → List Packet
 flown q = standing (packets q.number q.lane q.bit q.used)
 
+-- arrays with an entry for each slot
+pub record Roomy (q : Queues) : Type 0 where
+  pub number_long : length q.number ≡ room
+  pub lane_long : length q.lane ≡ room
+  pub bit_long : length q.bit ≡ room
+
 -- f is the first slot on lane x from slot i on, or none is
 pub record Next (lane : List ℕ) (used x i f : ℕ) : Type 0 where
   pub most : f ≤ room

@@ -3,7 +3,7 @@ ghost use Rattle.std.specs.Prelude.{◌≡◌, [], ◌∷◌, ◌++◌, ◌+◌,
 ghost use Rattle.model.specs.Limits.{links_most, ends_most};
 ghost use Rattle.model.specs.Lanes.{less};
 ghost use Rattle.model.specs.Fail.{off};
-ghost use Rattle.queues.specs.Queue.{room, no_lane, flown, Queued, Pushed, Emptied, relaned};
+ghost use Rattle.queues.specs.Queue.{room, no_lane, flown, Roomy, Queued, Pushed, Emptied, relaned};
 
 // Slots of a burst; as a slot's number it says that there is none.
 pub const ROOM: usize = 2 * model::FLIGHT;
@@ -31,7 +31,10 @@ impl Queues {
     // The packet in slot i, the first of lane x, goes.
     pub fn take(&mut self, i: usize, x: usize)
         requires { (i < room) × (x < ends_most) }
-        ensures { (Queued self.old → get_or self.old.first x 0 ≡ i → Queued self.new × (flown self.new ≡ less x (flown self.old))) × (self.new ≡ relaned self.old (set self.old.lane i no_lane) (set self.old.first x (get_or self.old.after i 0))) }
+        ensures queued { Queued self.old → get_or self.old.first x 0 ≡ i → Queued self.new × (flown self.new ≡ less x (flown self.old)) }
+        ensures is { self.new ≡ relaned self.old (set self.old.lane i no_lane) (set self.old.first x (get_or self.old.after i 0)) }
+        ensures long { Roomy self.new }
+        ensures firsts { length self.new.first ≡ ends_most }
     {
         let next = self.after[i];
         self.first[x] = next;
@@ -41,7 +44,10 @@ impl Queues {
     // A packet comes into the next slot, the last of its lane.
     pub fn push(&mut self, n: u32, x: usize, b: bool)
         requires { (self.old.used < room) × (x < ends_most) × Queued self.old }
-        ensures { (flown self.new ≡ flown self.old ++ (record { number = n; lane = x; bit = b } ∷ [])) × Queued self.new × Pushed self.old n x b self.new }
+        ensures packets { flown self.new ≡ flown self.old ++ (record { number = n; lane = x; bit = b } ∷ []) }
+        ensures queued { Queued self.new }
+        ensures pushed { Pushed self.old n x b self.new }
+        ensures long { Roomy self.new }
     {
         let k = self.used;
         self.number[k] = n;
@@ -69,7 +75,12 @@ impl Queues {
     // The packets on link l go, and its lanes' queues with them.
     pub fn cut(&mut self, l: usize)
         requires { (self.old.used ≤ room) × (l < links_most) }
-        ensures { (Queued self.old → Queued self.new) × (flown self.new ≡ off l (flown self.old)) × Emptied l self.old.used self.old.lane self.new.lane × (self.new ≡ relaned self.old self.new.lane (set (set self.old.first (2 * l) room) (2 * l + 1) room)) }
+        ensures queued { Queued self.old → Queued self.new }
+        ensures packets { flown self.new ≡ off l (flown self.old) }
+        ensures emptied { Emptied l self.old.used self.old.lane self.new.lane }
+        ensures is { self.new ≡ relaned self.old self.new.lane (set (set self.old.first (2 * l) room) (2 * l + 1) room) }
+        ensures long { Roomy self.new }
+        ensures firsts { length self.new.first ≡ ends_most }
     {
         empty(&mut self.lane, self.used, l);
         self.first[2 * l] = ROOM as u16;

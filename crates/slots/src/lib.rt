@@ -4,9 +4,9 @@
 
 ghost use Rattle.std.specs.Prelude.{◌≡◌, ℕ, ◌≤◌, ◌<◌, length, get_or, replicate};
 ghost use Rattle.model.specs.Limits.{ends_most, flight_most};
-ghost use Rattle.arrays.specs.Flight.{packets, flying_in};
+ghost use Rattle.arrays.specs.Flight.{Slots, packets, flying_in};
 ghost use Rattle.packets.specs.Moves.{Stays};
-ghost use Rattle.queues.specs.Queue.{room, flown, Queued, Kept, Idles, requeued, refilled};
+ghost use Rattle.queues.specs.Queue.{room, flown, Roomy, Queued, Kept, Idles, requeued, refilled};
 
 use arrays::{Flight, SLOTS};
 use queues::{NO_LANE, Queues, ROOM};
@@ -14,7 +14,11 @@ use queues::{NO_LANE, Queues, ROOM};
 // The packets of a record, slot by slot; so many slots are in use.
 pub fn spread(flight: &Flight, queues: &mut Queues, flying: usize)
     requires { flying ≤ flight_most }
-    ensures { (packets queues.new.number queues.new.lane queues.new.bit flying ≡ flying_in flight.now flying) × ((i : ℕ) → i < flying → get_or queues.new.lane i 0 ≡ get_or flight.now.lane i 0) × Kept flying queues.old queues.new × (queues.new ≡ refilled queues.old queues.new.number queues.new.lane queues.new.bit flying) }
+    ensures packets { packets queues.new.number queues.new.lane queues.new.bit flying ≡ flying_in flight.now flying }
+    ensures lanes { (i : ℕ) → i < flying → get_or queues.new.lane i 0 ≡ get_or flight.now.lane i 0 }
+    ensures kept { Kept flying queues.old queues.new }
+    ensures is { queues.new ≡ refilled queues.old queues.new.number queues.new.lane queues.new.bit flying }
+    ensures long { Roomy queues.new }
 {
     queues.number[..flying].copy_from_slice(&flight.number[..flying]);
     queues.lane[..flying].copy_from_slice(&flight.lane[..flying]);
@@ -25,7 +29,10 @@ pub fn spread(flight: &Flight, queues: &mut Queues, flying: usize)
 // The packets that still stand, oldest first, into the arrays of a record; gives how many.
 pub fn gather(queues: &Queues, flight: &mut Flight) -> usize
     requires { (queues.now.used ≤ room) × (length (flown queues.now) ≤ flight_most) }
-    ensures { (result ≡ length (flown queues.now)) × (flying_in flight.new result ≡ flown queues.now) × Stays result flight.old flight.new }
+    ensures many { result ≡ length (flown queues.now) }
+    ensures packets { flying_in flight.new result ≡ flown queues.now }
+    ensures stays { Stays result flight.old flight.new }
+    ensures long { Slots flight.new }
 {
     let mut w: usize = 0;
     for j in 0..queues.used {
@@ -68,7 +75,12 @@ pub fn thread_lanes(queues: &mut Queues)
 // The packets move up to the front, and the slots behind them can be used again.
 pub fn make_room(queues: &mut Queues)
     requires { (length (flown queues.old) ≤ flight_most) × Queued queues.old }
-    ensures { (queues.new.used ≡ length (flown queues.old)) × (flown queues.new ≡ flown queues.old) × Queued queues.new × Kept queues.new.used queues.old queues.new × Idles queues.new.used queues.old queues.new }
+    ensures many { queues.new.used ≡ length (flown queues.old) }
+    ensures packets { flown queues.new ≡ flown queues.old }
+    ensures queued { Queued queues.new }
+    ensures kept { Kept queues.new.used queues.old queues.new }
+    ensures idle { Idles queues.new.used queues.old queues.new }
+    ensures long { Roomy queues.new }
 {
     let mut flight = Flight {
         number: [0; SLOTS],
@@ -84,7 +96,10 @@ pub fn make_room(queues: &mut Queues)
 // The packets of a record, in queues.
 pub fn line_up(flight: &Flight, flying: usize) -> Queues
     requires { (flying ≤ flight_most) × ((i : ℕ) → i < flying → get_or flight.now.lane i 0 < ends_most) }
-    ensures { (flown result ≡ flying_in flight.now flying) × Queued result × (result.used ≡ flying) }
+    ensures packets { flown result ≡ flying_in flight.now flying }
+    ensures queued { Queued result }
+    ensures used { result.used ≡ flying }
+    ensures long { Roomy result }
 {
     let mut queues = Queues {
         number: [0; ROOM],

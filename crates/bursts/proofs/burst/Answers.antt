@@ -54,12 +54,12 @@ line_up-queues-requires c =
 pub run-network-requires-clause-formed : goal.run-network-requires-clause-formed
 run-network-requires-clause-formed c =
     let n = c.args.n in
-    ap (λ (f : List Packet). well_formed (shown n.plan n.arrows f n.tally)) c.line_up-queues.ensures.0 ∙ sym c.well_formed-2.ensures ∙ c.if-not-well_formed.false
+    ap (λ (f : List Packet). well_formed (shown n.plan n.arrows f n.tally)) c.line_up-queues.ensures.packets ∙ sym c.well_formed-2.ensures ∙ c.if-not-well_formed.false
 
 pub run-network-requires-clause-many : goal.run-network-requires-clause-many
 run-network-requires-clause-many c =
     let n = c.args.n in
-    ap (λ (f : List Packet). length f) c.line_up-queues.ensures.0 ∙ many n.plan n.arrows n.flight n.tally
+    ap (λ (f : List Packet). length f) c.line_up-queues.ensures.packets ∙ many n.plan n.arrows n.flight n.tally
 
 pub run-network-requires-clause-chained : goal.run-network-requires-clause-chained
 run-network-requires-clause-chained c =
@@ -69,7 +69,7 @@ pub returns-then-all_refused : goal.returns-then-all_refused
 returns-then-all_refused c =
     let a = c.args in
     let n = a.n in
-    let seen = ap (λ (f : List Packet). shown n.plan n.arrows f n.tally) c.line_up-queues.ensures.0 in
+    let seen = ap (λ (f : List Packet). shown n.plan n.arrows f n.tally) c.line_up-queues.ensures.packets in
     let given = given_by seen c.run-network.ensures.lists in
     record {
       made = c.shortest-count.ensures;
@@ -83,7 +83,7 @@ pub gather-requires : goal.gather-requires
 gather-requires c =
     let a = c.args in
     let n = a.n in
-    let seen = ap (λ (f : List Packet). shown n.plan n.arrows f n.tally) c.line_up-queues.ensures.0 in
+    let seen = ap (λ (f : List Packet). shown n.plan n.arrows f n.tally) c.line_up-queues.ensures.packets in
     let good = sym c.well_formed-2.ensures ∙ c.if-not-well_formed.false in
     (c.run-network.ensures.room, few_after _ a.kinds.now a.arguments.now c.shortest-count.result _ (ap well_formed seen ∙ good) c.run-network.ensures.state)
 
@@ -92,14 +92,14 @@ returns c =
     let a = c.args in
     let n = a.n in
     let l = c.run-network.new in
-    let seen = ap (λ (f : List Packet). shown n.plan n.arrows f n.tally) c.line_up-queues.ensures.0 in
+    let seen = ap (λ (f : List Packet). shown n.plan n.arrows f n.tally) c.line_up-queues.ensures.packets in
     let given = given_by seen c.run-network.ensures.lists in
-    let few : c.gather.result ≡ c.run-network.result.flying = c.gather.ensures.0 ∙ c.run-network.ensures.many in
+    let few : c.gather.result ≡ c.run-network.result.flying = c.gather.ensures.many ∙ c.run-network.ensures.many in
     record {
       made = c.shortest-count.ensures;
       outcome =
           ap (λ (k : ℕ). shown n.plan l.arrows (flying_in c.gather.new.flight k) c.run-network.result) (sym few)
-          ∙ ap (λ (f : List Packet). shown n.plan l.arrows f c.run-network.result) c.gather.ensures.1
+          ∙ ap (λ (f : List Packet). shown n.plan l.arrows f c.run-network.result) c.gather.ensures.packets
           ∙ c.run-network.ensures.state
           ∙ ap (λ (s : State). calls s a.kinds.now a.arguments.now c.shortest-count.result) seen;
       given = given;

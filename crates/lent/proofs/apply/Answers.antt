@@ -45,7 +45,7 @@ pub returns : goal.returns
 returns c =
     let a = c.args in
     let all = many a.plan.now a.arrows.now a.flight.now a.tally in
-    accepted a.plan.now a.arrows.now a.flight.now a.tally a.kind a.argument c.step-r.result c.step-r.new.arrows c.carry.new.flight c.carry.result _ c.carry.ensures
+    accepted a.plan.now a.arrows.now a.flight.now a.tally a.kind a.argument c.step-r.result c.step-r.new.arrows c.carry.new.flight c.carry.result _ c.carry.ensures.packets
     (c.step-r.ensures.flying (flying a.plan.now a.arrows.now a.flight.now a.tally) c.ask-asked.ensures.told all)
     (c.step-r.ensures.outcome (flying a.plan.now a.arrows.now a.flight.now a.tally) c.ask-asked.ensures.told all (sym c.formed.ensures ∙ c.if-not-formed.false))
     c.if-answer-ne0.false

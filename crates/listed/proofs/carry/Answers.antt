@@ -28,8 +28,8 @@ pass_on-requires c =
           c.if-answer-eq0.stay (stayed (goal.at.pass_on-requires c).Joined-answer-eq0) p.2 n x f g,
     )
 
-pub returns : goal.returns
-returns c =
+pub returns-clause-packets : goal.returns-clause-packets
+returns-clause-packets c =
     let a = c.args in
-    c.pass_on.ensures
-    ∙ flies_on a.kind a.argument a.arrows.now.local (flying_in a.flight.now a.flying) a.answer a.handled a.went _ (stayed (goal.at.returns c).Joined-answer-eq0)
+    c.pass_on.ensures.packets
+    ∙ flies_on a.kind a.argument a.arrows.now.local (flying_in a.flight.now a.flying) a.answer a.handled a.went _ (stayed (goal.at.returns-clause-packets c).Joined-answer-eq0)

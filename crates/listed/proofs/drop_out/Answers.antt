@@ -15,7 +15,7 @@ pub returns-then-kind-eq-FAIL : goal.returns-then-kind-eq-FAIL
 returns-then-kind-eq-FAIL c =
     let a = c.args in
     let e = c.keep_off.ensures in
-    (e.1 ∙ left_off a.kind a.argument (flying_in a.flight.now a.flying) c.if-kind-eq-SEND.false c.if-kind-eq-FAIL.true, e.0)
+    (e.packets ∙ left_off a.kind a.argument (flying_in a.flight.now a.flying) c.if-kind-eq-SEND.false c.if-kind-eq-FAIL.true, e.within)
 
 pub overflow_sub-rest : goal.overflow_sub-rest
 overflow_sub-rest c = omega (arith, (c.requires.1.at _ c.in-Some.is).2)
@@ -26,8 +26,9 @@ take_out-requires c = let t = c.requires.1.at _ c.in-Some.is in (omega (arith, t
 pub returns-in-Some : goal.returns-in-Some
 returns-in-Some c =
     let a = c.args in
-    let t = c.requires.1.at _ c.in-Some.is in (
-      rest_there a.argument a.flying t.1 t.2 (omega (arith, t.2)) c.take_out.ensures
+    let t = c.requires.1.at _ c.in-Some.is in
+    let e = c.take_out.ensures in (
+      rest_there a.argument a.flying t.1 t.2 (omega (arith, t.2)) (e.number, e.lane, e.bit)
           ∙ left_less a.kind a.argument (flying_in a.flight.now a.flying) c.if-kind-eq-SEND.false c.if-kind-eq-FAIL.false,
       omega arith,
     )

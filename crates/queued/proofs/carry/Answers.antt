@@ -34,4 +34,8 @@ returns c =
     let a = c.args in
     let s = stays (goal.at.returns c).Joined-answer-eq0 in
     let e = c.pass_on.ensures in
-    (e.0 ∙ flies_on a.kind a.argument a.arrows.now.local (flown a.queues.now) a.answer a.handled a.went _ s.1, e.1)
+    record {
+      packets = e.packets ∙ flies_on a.kind a.argument a.arrows.now.local (flown a.queues.now) a.answer a.handled a.went _ s.1;
+      queued = e.queued;
+      long = e.long;
+    }

@@ -16,10 +16,10 @@ pub returns-then-argument-lt-LINKS : goal.returns-then-argument-lt-LINKS
 returns-then-argument-lt-LINKS c =
     let a = c.args in
     let e = c.cut.ensures in (
-      e.0 c.requires.0,
-      e.1 ∙ left_off a.kind a.argument (flown a.queues.now) c.if-kind-eq-SEND.false c.if-kind-eq-FAIL.true,
-      ap (λ (q : Queues). q.used) e.3,
-      e.3 ∙ sym (ap (λ (q : Queues). relaned a.queues.now q.lane q.first) e.3),
+      e.queued c.requires.0,
+      e.packets ∙ left_off a.kind a.argument (flown a.queues.now) c.if-kind-eq-SEND.false c.if-kind-eq-FAIL.true,
+      ap (λ (q : Queues). q.used) e.is,
+      e.is ∙ sym (ap (λ (q : Queues). relaned a.queues.now q.lane q.first) e.is),
     )
 
 pub returns-else-argument-lt-LINKS : goal.returns-else-argument-lt-LINKS
@@ -40,11 +40,11 @@ pub returns-in-Some : goal.returns-in-Some
 returns-in-Some c =
     let a = c.args in
     let e = c.take.ensures in
-    let h = e.0 c.requires.0 (sym (c.requires.1.at _ c.in-Some.is).1) in (
+    let h = e.queued c.requires.0 (sym (c.requires.1.at _ c.in-Some.is).1) in (
       h.0,
       h.1 ∙ left_less a.kind a.argument (flown a.queues.now) c.if-kind-eq-SEND.false c.if-kind-eq-FAIL.false,
-      ap (λ (q : Queues). q.used) e.1,
-      e.1 ∙ sym (ap (λ (q : Queues). relaned a.queues.now q.lane q.first) e.1),
+      ap (λ (q : Queues). q.used) e.is,
+      e.is ∙ sym (ap (λ (q : Queues). relaned a.queues.now q.lane q.first) e.is),
     )
 
 pub returns-in-None : goal.returns-in-None

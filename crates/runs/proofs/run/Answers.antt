@@ -35,7 +35,7 @@ module _ (c : goal.After-ask-asked) where
   going : Going c.args.plan.now start c.args.kinds.now c.args.arguments.now c.args.answers.now c.args.packets.now c.args.ways.now c.loop-i.arrows c.room_for_one.new.queues c.loop-i.answers c.loop-i.packets c.loop-i.ways c.loop-i.t c.loop-i.i
   going =
       going_moved c.args.plan.now start c.args.kinds.now c.args.arguments.now c.args.answers.now c.args.packets.now c.args.ways.now c.loop-i.invariant
-      c.room_for_one.new.queues c.room_for_one.ensures.1 c.room_for_one.ensures.2
+      c.room_for_one.new.queues c.room_for_one.ensures.packets c.room_for_one.ensures.queued
 
   told : c.ask-asked.result.told ≡ tells (flown c.room_for_one.new.queues) (get_or c.args.kinds.now c.loop-i.i 0) (get_or c.args.arguments.now c.loop-i.i 0)
   told = (c.ask-asked.ensures _ _ going.queued).told
@@ -60,7 +60,7 @@ pub carry-requires : goal.carry-requires
 carry-requires c =
     let o = (goal.at.carry-requires c).After-ask-asked in
     let g = going o in (
-      c.room_for_one.ensures.0,
+      c.room_for_one.ensures.room,
       λ x e. call_lane _ _ _ (formed o) x (sym (ap (λ (z : Outcome). z.went) (c.step-r.ensures.outcome _ (told o) g.many (formed o))) ∙ e),
       g.queued,
       c.ask-asked.ensures _ _ g.queued,
@@ -79,7 +79,7 @@ loop-i-preserved c =
     let o = (goal.at.loop-i-preserved c).After-ask-asked in
     let g = going o in
     going_on _ _ _ _ _ _ _ g c.step-r.new.arrows c.carry.new.queues c.note.new.answers c.note.new.packets c.note.new.ways c.step-r.result
-    (c.step-r.ensures.outcome _ (told o) g.many (formed o)) (c.step-r.ensures.flying _ (told o) g.many) c.carry.ensures.0 c.carry.ensures.1 n.0 n.1 n.2
+    (c.step-r.ensures.outcome _ (told o) g.many (formed o)) (c.step-r.ensures.flying _ (told o) g.many) c.carry.ensures.packets c.carry.ensures.queued n.0 n.1 n.2
     (omega (arith, l, c.requires.answers_enough)) (omega (arith, l, c.requires.packets_enough)) (omega (arith, l, c.requires.ways_enough))
 
 pub returns : goal.returns

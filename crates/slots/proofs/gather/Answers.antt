@@ -1,6 +1,7 @@
 use Prim.Native.Nat.{◌<◌}
 use native.Mathlib.Omega.{arith}
-use mathlib.Core.Path.{◌≡◌}
+use mathlib.Core.Path.{◌≡◌, ◌∙◌}
+use lib.ListN.{length-set}
 use Rattle.model.specs.Limits.{flight_most}
 use Rattle.slots.proofs.Gathered.{gathered_none, gathered_many, gathered_gone, gathered_room, gathered_stays}
 use Rattle.packets.proofs.Stays.{stay_all, stay_more}
@@ -11,8 +12,11 @@ use Rattle.slots.proofs.gather.Goals.{Then-x-ne-NO_LANE, then-x-ne-NO_LANE, else
 pub loop-j-init : goal.loop-j-init
 loop-j-init c =
     let q = c.args.queues.now in
-    let f = c.args.flight.now in
-    (gathered_none q.number q.lane q.bit f.number f.lane f.bit, stay_all 0 _ _ _)
+    let f = c.args.flight.now in (
+      gathered_none q.number q.lane q.bit f.number f.lane f.bit,
+      stay_all 0 _ _ _,
+      record { number_long = omega arith; lane_long = omega arith; bit_long = omega arith },
+    )
 
 -- a packet that stands finds a slot free
 free : (c : Then-x-ne-NO_LANE) → c.loop-j.w < flight_most
@@ -54,11 +58,17 @@ loop-j-preserved c =
             gathered_stays q.number q.lane q.bit h.j h.w h.flight.number h.flight.lane h.flight.bit h.invariant.0 w.if-x-ne-NO_LANE.true
                 (omega arith) (omega arith) (omega arith),
             stay_more h.w h.flight.number h.flight.lane h.flight.bit _ _ _ h.invariant.1,
+            record {
+              number_long = length-set h.flight.number h.w _ ∙ h.invariant.2.number_long;
+              lane_long = length-set h.flight.lane h.w _ ∙ h.invariant.2.lane_long;
+              bit_long = length-set h.flight.bit h.w _ ∙ h.invariant.2.bit_long;
+            },
           )
       | else-x-ne-NO_LANE w ↦
           rw (w.flight-is, w.w-is) (
             gathered_gone q.number q.lane q.bit h.j h.w h.flight.number h.flight.lane h.flight.bit h.invariant.0 w.if-x-ne-NO_LANE.false,
             h.invariant.1,
+            h.invariant.2,
           )
     ]
 
@@ -66,8 +76,10 @@ pub returns : goal.returns
 returns c =
     let q = c.args.queues.now in
     let h = c.loop-j in
-    let e : h.j ≡ q.used = omega arith in (
-      rw e at (gathered_many q.number q.lane q.bit h.j h.w h.flight.number h.flight.lane h.flight.bit h.invariant.0),
-      rw e at h.invariant.0.gathered,
-      h.invariant.1,
-    )
+    let e : h.j ≡ q.used = omega arith in
+    record {
+      many = rw e at (gathered_many q.number q.lane q.bit h.j h.w h.flight.number h.flight.lane h.flight.bit h.invariant.0);
+      packets = rw e at h.invariant.0.gathered;
+      stays = h.invariant.1;
+      long = h.invariant.2;
+    }

@@ -1,7 +1,7 @@
 -- Those that stand are gathered, spread over the first slots and put into queues again. Assumes nothing.
 use native.Mathlib.Omega.{arith}
 use mathlib.Core.Path.{ap, ◌∙◌}
-use lib.ListN.{get_or, get_or-replicate}
+use lib.ListN.{length, get_or, get_or-replicate}
 use Rattle.model.specs.Limits.{ends_most}
 use Rattle.queues.specs.declared.queue.Queues.{Queues}
 use Rattle.queues.specs.Queue.{room}
@@ -16,10 +16,10 @@ thread_lanes-requires c =
     let g = c.gather-kept.ensures in
     let s = c.spread.ensures in
     let e = c.clear.ensures in
-    let on = gathered_named q.number q.lane q.bit f.number f.lane f.bit q.used _ g.1 p.1.named in
-    let used = ap (λ (x : Queues). x.used) e ∙ ap (λ (x : Queues). x.used) s.3 in (
-      omega (arith, used, g.0, p.0),
-      λ i l. rw (ap (λ (x : Queues). x.lane) e, s.1 i (rw used at l)) (on i (rw used at l)),
+    let on = gathered_named q.number q.lane q.bit f.number f.lane f.bit q.used _ g.packets p.1.named in
+    let used = ap (λ (x : Queues). x.used) e ∙ ap (λ (x : Queues). x.used) s.is in (
+      omega (arith, used, g.many, p.0),
+      λ i l. rw (ap (λ (x : Queues). x.lane) e, s.lanes i (rw used at l)) (on i (rw used at l)),
       λ x l. ap (λ (y : Queues). get_or y.first x 0) e ∙ get_or-replicate ends_most x room 0 l,
     )
 
@@ -32,16 +32,23 @@ returns c =
     let e = c.clear.ensures in
     let t = c.thread_lanes.ensures in
     let m = c.spread.new.queues in
-    let cleared = ap (λ (x : Queues). x.used) e ∙ ap (λ (x : Queues). x.used) s.3 in
+    let cleared = ap (λ (x : Queues). x.used) e ∙ ap (λ (x : Queues). x.used) s.is in
     let used = ap (λ (x : Queues). x.used) t.2 ∙ cleared in
     let number = ap (λ (x : Queues). x.number) t.2 ∙ ap (λ (x : Queues). x.number) e in
     let lane = ap (λ (x : Queues). x.lane) t.2 ∙ ap (λ (x : Queues). x.lane) e in
     let bit = ap (λ (x : Queues). x.bit) t.2 ∙ ap (λ (x : Queues). x.bit) e in
-    let last = ap (λ (x : Queues). x.last) e ∙ ap (λ (x : Queues). x.last) s.3 in
-    let after = ap (λ (x : Queues). x.after) e ∙ ap (λ (x : Queues). x.after) s.3 in (
-      used ∙ g.0,
-      rw (number, lane, bit, used) (spread_again q.number q.lane q.bit f.number f.lane f.bit q.used _ g.1 m.number m.lane m.bit s.0),
-      t.0,
-      rw (number, lane, bit, used) s.2,
-      rw used (rw (cleared, last, after) at t.1),
-    )
+    let last = ap (λ (x : Queues). x.last) e ∙ ap (λ (x : Queues). x.last) s.is in
+    let after = ap (λ (x : Queues). x.after) e ∙ ap (λ (x : Queues). x.after) s.is in
+    record {
+      many = used ∙ g.many;
+      packets = rw (number, lane, bit, used) (spread_again q.number q.lane q.bit f.number f.lane f.bit q.used _ g.packets m.number m.lane m.bit s.packets);
+      queued = t.0;
+      kept = rw (number, lane, bit, used) s.kept;
+      idle = rw used (rw (cleared, last, after) at t.1);
+      long =
+          record {
+            number_long = ap length number ∙ s.long.number_long;
+            lane_long = ap length lane ∙ s.long.lane_long;
+            bit_long = ap length bit ∙ s.long.bit_long;
+          };
+    }

@@ -36,4 +36,9 @@ pub returns : goal.returns
 returns c =
     let h = c.loop-j in
     let e : h.j ≡ c.args.flying = omega arith in
-    (omega arith, rw e at h.invariant.1.kept, h.invariant.2)
+    record {
+      within = omega arith;
+      packets = rw e at h.invariant.1.kept;
+      stays = h.invariant.2;
+      long = record { number_long = omega arith; lane_long = omega arith; bit_long = omega arith };
+    }
