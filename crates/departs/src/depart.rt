@@ -41,10 +41,12 @@ pub fn onward(plan: &Plan, threads: Option<&Threads>, arrows: &mut Arrows, v: us
     requires marks { MarksLive plan.now arrows.old }
     ensures leaves { (flight : List Packet) (t : Tally) (n : ℕ) → leaves (shown plan.now arrows.new flight t) result n ≡ onward_of (shown plan.now arrows.old flight t) v n }
     ensures within { result < 2 * plan.now.links }
-    ensures long { Room arrows.old → Room arrows.new }
+    ensures long { Room arrows.new }
     ensures live { arrows.new.live ≡ arrows.old.live }
     ensures remote { arrows.new.remote ≡ arrows.old.remote }
 {
+    // names an array, so that a proof is told the lengths
+    let _ = &arrows.out;
     match way(plan, threads, arrows, v) {
         Some(x) => x,
         None => turned_way(plan, threads, arrows, v),

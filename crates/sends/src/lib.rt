@@ -28,11 +28,13 @@ pub fn send_step(
     requires chained { Chained threads plan.now }
     ensures outcome { (flight : List Packet) → length flight ≡ tally.flying → well_formed (shown plan.now arrows.old flight tally) ≡ true → outcome_of (shown plan.now arrows.new (passed arrows.new.local flight result.handled result.went) result.tally) result ≡ send_to (shown plan.now arrows.old flight tally) v }
     ensures flying { (flight : List Packet) → length flight ≡ tally.flying → length (passed arrows.new.local flight result.handled result.went) ≡ result.tally.flying }
-    ensures long { Room arrows.old → Room arrows.new }
+    ensures long { Room arrows.new }
     ensures live { arrows.new.live ≡ arrows.old.live }
     ensures remote { arrows.new.remote ≡ arrows.old.remote }
     ensures refused { (result.answer ≡ 0 → ⊥) → (result.tally ≡ tally) × (arrows.new ≡ arrows.old) }
 {
+    // names an array, so that a proof is told the lengths
+    let _ = &arrows.out;
     let destination = plan.destination;
     let flying = tally.flying;
     let n = tally.admitted;

@@ -38,9 +38,11 @@ pub fn step(
     requires gone { told.gone ≤ tally.flying }
     ensures outcome { (flight : List Packet) → told ≡ tells flight kind argument → length flight ≡ tally.flying → well_formed (shown plan.now arrows.old flight tally) ≡ true → outcome_of (shown plan.now arrows.new (flies kind argument arrows.new.local flight result.answer result.handled result.went) result.tally) result ≡ call (shown plan.now arrows.old flight tally) kind argument }
     ensures flying { (flight : List Packet) → told ≡ tells flight kind argument → length flight ≡ tally.flying → length (flies kind argument arrows.new.local flight result.answer result.handled result.went) ≡ result.tally.flying }
-    ensures long { Whole arrows.old → Whole arrows.new }
+    ensures long { Whole arrows.new }
     ensures refused { (result.answer ≡ 0 → ⊥) → (result.tally ≡ tally) × (arrows.new ≡ arrows.old) }
 {
+    // names an array, so that a proof is told the lengths
+    let _ = &arrows.out;
     if model::EVENTS <= tally.events {
         return bare(tally, NO_MORE_EVENTS);
     }

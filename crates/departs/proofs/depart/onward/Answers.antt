@@ -38,7 +38,7 @@ returns-in-None c =
       leaves = λ flight t n. c.turned_way.ensures.leaves flight t n
           ∙ onward_turned (shown a.plan.now a.arrows.now flight t) a.v n (no_way (shown a.plan.now a.arrows.now flight t) a.v (sym c.in-None.is ∙ c.way.ensures));
       within = c.turned_way.ensures.within;
-      long = λ h. c.turned_way.ensures.long;
+      long = c.turned_way.ensures.long;
       live = c.turned_way.ensures.live;
       remote = c.turned_way.ensures.remote;
     }
@@ -51,7 +51,7 @@ returns-in-Some c =
     record {
       leaves = λ flight t n. onward_by (shown a.plan.now a.arrows.now flight t) a.v _ n (sym c.in-Some.is ∙ c.way.ensures);
       within = way_within s a.v c.in-Some.x (sym c.in-Some.is ∙ c.way.ensures);
-      long = λ h. h;
+      long = record { long = record { out = omega arith; local = omega arith; mark = omega arith }; turns_long = omega arith };
       live = refl;
       remote = refl;
     }
