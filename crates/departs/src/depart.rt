@@ -45,7 +45,7 @@ pub fn onward(plan: &Plan, threads: Option<&Threads>, arrows: &mut Arrows, v: us
     ensures live { arrows.new.live ≡ arrows.old.live }
     ensures remote { arrows.new.remote ≡ arrows.old.remote }
 {
-    // names an array, so that a proof is told the lengths
+    // looked at for the proof alone, which then knows how long the arrays are
     let _ = &arrows.out;
     match way(plan, threads, arrows, v) {
         Some(x) => x,

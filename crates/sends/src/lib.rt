@@ -33,7 +33,7 @@ pub fn send_step(
     ensures remote { arrows.new.remote ≡ arrows.old.remote }
     ensures refused { (result.answer ≡ 0 → ⊥) → (result.tally ≡ tally) × (arrows.new ≡ arrows.old) }
 {
-    // names an array, so that a proof is told the lengths
+    // looked at for the proof alone, which then knows how long the arrays are
     let _ = &arrows.out;
     let destination = plan.destination;
     let flying = tally.flying;

@@ -41,7 +41,7 @@ pub fn step(
     ensures long { Whole arrows.new }
     ensures refused { (result.answer ≡ 0 → ⊥) → (result.tally ≡ tally) × (arrows.new ≡ arrows.old) }
 {
-    // names an array, so that a proof is told the lengths
+    // looked at for the proof alone, which then knows how long the arrays are
     let _ = &arrows.out;
     if model::EVENTS <= tally.events {
         return bare(tally, NO_MORE_EVENTS);
