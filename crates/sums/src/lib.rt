@@ -1,4 +1,4 @@
-// What the programs of docs/CALLS.md share: their numbers, the generator, the checksum.
+// What the programs of docs/CALLS.md share: the largest number, the generator, the checksum. Beside it sums and casts that no number breaks.
 #![tactic(auto)]
 
 mod generator;
