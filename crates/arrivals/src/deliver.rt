@@ -44,6 +44,8 @@ fn land(
     ensures live { arrows.new.live ≡ arrows.old.live }
     ensures remote { arrows.new.remote ≡ arrows.old.remote }
 {
+    // looked at for the proof alone, which then knows how long the arrays are
+    let _ = &arrows.out;
     let destination = plan.destination;
     let flying = tally.flying;
     let v = usize::from(plan.node[y]);

@@ -20,7 +20,7 @@ returns-then-answer-eq0 c =
     let a = c.args in
     let long = length-take-le a.count a.answers.now c.requires in
     let here = get_or-take a.count a.answers.now h.answer-index 0 (omega arith) in
-    sym (ap not (any_here (λ j. eqb (get_or a.answers.now j 0) 0) a.count h.answer-index (omega arith) (eq-eqb _ 0 (sym here ∙ c.if-answer-eq0.true))))
+    sym (ap not (any_here (λ j. eqb (get_or a.answers.now j 0) 0) a.count h.answer-index (omega arith) (eq-eqb (get_or a.answers.now h.answer-index 0) 0 (omega arith))))
 
 pub loop-answer-preserved : goal.loop-answer-preserved
 loop-answer-preserved c =
@@ -28,7 +28,7 @@ loop-answer-preserved c =
     let a = c.args in
     let long = length-take-le a.count a.answers.now c.requires in
     let here = get_or-take a.count a.answers.now h.answer-index 0 (omega arith) in
-    any_more (λ j. eqb (get_or a.answers.now j 0) 0) h.answer-index {some = false} {here = false} h.invariant (sym (ne_eqb _ 0 (λ z. c.if-answer-eq0.false (here ∙ z))))
+    any_more (λ j. eqb (get_or a.answers.now j 0) 0) h.answer-index {some = false} {here = false} h.invariant (sym (ne_eqb (get_or a.answers.now h.answer-index 0) 0 (λ z. omega arith)))
 
 pub returns : goal.returns
 returns c =
